@@ -59,6 +59,7 @@ mod flags;
 pub mod hub;
 mod manager;
 mod names;
+mod panics;
 #[allow(unsafe_code)]
 mod raw;
 mod readings;

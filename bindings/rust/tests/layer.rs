@@ -326,6 +326,100 @@ fn a_stop_ends_waits() {
     let _guard = shared.lock(p, b"A", Mode::Ex).expect("a lock");
     let future = asked(&shared, q);
     shared.stop();
-    assert_eq!(block_on(future).err(), Some(Error::Nonexpr));
+    assert_eq!(block_on(future).err(), Some(Error::Departed));
     assert_eq!(shared.lock(p, b"B", Mode::Ex).err(), Some(Error::Departed));
+}
+
+#[test]
+fn a_departure_ends_futures() {
+    let shared = Shared::new().expect("memory");
+    let (p, q) = (declared(&shared, ""), declared(&shared, ""));
+    let other = Client {
+        node: 2,
+        ..Client::default()
+    };
+    let r = shared.declare(&other).expect("a process");
+    let _reader = shared.lock(p, b"A", Mode::Cr).expect("a lock");
+    let mut guard = shared.lock(r, b"A", Mode::Cr).expect("a lock");
+    let future = asked(&shared, r);
+    let conversion = guard
+        .convert_async(Mode::Ex, Terms::new())
+        .expect("a request");
+    let waits = asked(&shared, q);
+    assert_eq!(shared.leave(2), Ok(()));
+    assert_eq!(block_on(future).err(), Some(Error::Departed));
+    assert_eq!(block_on(conversion), Err(Error::Departed));
+    assert_eq!(shared.counters().waiting, 1);
+    drop(waits);
+}
+
+#[test]
+fn a_conversion_that_is_granted_and_dropped_is_noted() {
+    let shared = Options::new().by_program().open().expect("memory");
+    let (p, q) = (declared(&shared, "P"), declared(&shared, "Q"));
+    let terms = || Terms::new().flags(EnqFlags::VALBLK);
+    let mut keep = shared
+        .lock_with(q, b"A", Mode::Nl, terms())
+        .expect("a lock");
+    let (tell, told) = channel();
+    let routine = |name| {
+        let tell = tell.clone();
+        Terms::new().blocking(move |_| tell.send(name).expect("a listener"))
+    };
+    let mut guard = shared
+        .lock_with(p, b"A", Mode::Ex, routine("old"))
+        .expect("a lock");
+    guard.write([1; 16]);
+    // (nothing is delivered, so the grant is not told)
+    drop(guard.convert_async(Mode::Pr, routine("new")));
+    assert_eq!(guard.mode(), Mode::Pr);
+    guard.convert(Mode::Nl).expect("a weaker mode");
+    let mut other = shared.lock(q, b"A", Mode::Ex).expect("a lock");
+    other.write([2; 16]);
+    drop(other);
+    // The value was written once, and the new routine stays.
+    guard.convert(Mode::Ex).expect("a stronger mode");
+    let waits = asked(&shared, q);
+    while shared.deliver() != Ok(0) {}
+    assert_eq!(told.try_iter().collect::<Vec<_>>(), ["new"]);
+    drop((waits, guard));
+    keep.convert(Mode::Pr).expect("a stronger mode");
+    assert_eq!(keep.value(), Some([2; 16]));
+}
+
+#[test]
+fn a_conversion_that_writes_nothing_keeps_the_value() {
+    let shared = Options::new().by_program().open().expect("memory");
+    let p = declared(&shared, "P");
+    let terms = Terms::new().flags(EnqFlags::VALBLK);
+    let mut keep = shared.lock_with(p, b"A", Mode::Nl, terms).expect("a lock");
+    let mut guard = shared.lock(p, b"A", Mode::Pw).expect("a lock");
+    guard.write([1; 16]);
+    drop(guard.convert_async(Mode::Ex, Terms::new()));
+    assert_eq!(guard.mode(), Mode::Ex);
+    drop(guard);
+    keep.convert(Mode::Pr).expect("a stronger mode");
+    assert_eq!(keep.value(), Some([1; 16]));
+}
+
+#[test]
+fn the_longest_age_of_victims_has_no_end() {
+    let days = |count: u64| Duration::from_secs(count * 86_400);
+    for (age, victims) in [(Duration::ZERO, 1), (days(49), 0), (days(50), 0)] {
+        let shared = Options::new().victims_after(age).open().expect("memory");
+        let p = declared(&shared, "P");
+        let _guard = shared.lock(p, b"A", Mode::Ex).expect("a lock");
+        let _future = asked(&shared, p);
+        assert_eq!(shared.search(), Ok(victims), "{age:?}");
+    }
+}
+
+thread_local! {
+    static OF_THREAD: Shared = Shared::new().expect("memory");
+}
+
+#[test]
+fn a_lock_manager_goes_with_its_thread() {
+    let looking = || OF_THREAD.with(|shared| shared.look(|manager| manager.lock_count()));
+    assert_eq!(thread::spawn(looking).join().ok(), Some(0));
 }

@@ -1,12 +1,13 @@
 //! Closures that are told of ends and warnings.
 
+use std::panic::{catch_unwind, AssertUnwindSafe};
 use std::sync::atomic::{AtomicUsize, Ordering::SeqCst};
 use std::sync::mpsc::channel;
 use std::sync::{Arc, Mutex};
 
 use vlm::{
-    AstKind, Client, Condition, DeqFlags, Dequeue, EnqFlags, Error, LockId, Mode, Options,
-    ProcessId, Shared, Terms,
+    AstKind, Client, Condition, DeqFlags, Dequeue, EnqFlags, Error, LockId, LockManager, Mode,
+    Options, ProcessId, Shared, Terms,
 };
 
 fn two() -> (Shared, ProcessId, ProcessId) {
@@ -41,7 +42,7 @@ fn called(shared: &Shared) -> u64 {
 }
 
 fn resources(shared: &Shared) -> usize {
-    shared.look(|manager| manager.resource_count())
+    shared.look(LockManager::resource_count)
 }
 
 #[test]
@@ -214,4 +215,65 @@ fn a_panic_of_a_routine_goes_on_after_the_others() {
         (shared.deq(p, first), shared.deq(p, second)),
         (Ok(()), Ok(()))
     );
+}
+
+/// A value that panics as it is dropped.
+struct Bomb;
+
+impl Drop for Bomb {
+    fn drop(&mut self) {
+        std::panic::resume_unwind(Box::new("dropped"));
+    }
+}
+
+fn with_bomb() -> impl FnMut(vlm::Event) + Send {
+    let bomb = Bomb;
+    move |_| {
+        let _bomb = &bomb;
+    }
+}
+
+fn panics<T>(call: impl FnOnce() -> T) -> bool {
+    catch_unwind(AssertUnwindSafe(call)).is_err()
+}
+
+#[test]
+fn a_panic_of_a_drop_goes_on_from_its_call() {
+    let (shared, p, q) = two();
+    let held = shared.lock(p, b"A", Mode::Ex).expect("a lock");
+    let noqueue = || Terms::new().flags(EnqFlags::NOQUEUE);
+    let start = |process, terms| shared.start(process, b"A", Mode::Ex, terms, with_bomb());
+    assert!(panics(|| start(p, noqueue())));
+    assert!(!panics(|| resources(&two().0)));
+    let terms = noqueue().blocking(with_bomb());
+    assert!(panics(|| shared.lock_with(p, b"A", Mode::Ex, terms)));
+    // Both routines of a request go with its process.
+    let waits = start(q, Terms::new().blocking(with_bomb()));
+    assert!(waits.is_ok() && shared.rundown(q).is_ok());
+    assert!(panics(|| shared.deliver()));
+    assert!(!panics(|| shared.deliver()));
+    // A completion routine goes with its call, and here with its lock manager.
+    let waits = start(p, Terms::new());
+    assert!(waits.is_ok());
+    drop(held);
+    assert!(panics(|| shared.deliver()));
+    assert!(start(p, Terms::new()).is_ok());
+    assert!(!panics(|| drop(shared)));
+}
+
+#[test]
+fn a_panic_of_a_routine_leaves_the_calls_of_others_alone() {
+    let (shared, p, _) = two();
+    let panic = |_| std::panic::resume_unwind(Box::new(()));
+    let first = shared.start(p, b"A", Mode::Ex, Terms::new(), panic);
+    first.expect("a lock");
+    let (clone, (ended, ends)) = (shared.clone(), channel());
+    let look = move |_| {
+        let count = clone.look(|manager| manager.lock_count());
+        ended.send(count).expect("a listener");
+    };
+    let second = shared.start(p, b"B", Mode::Ex, Terms::new(), look);
+    second.expect("a lock");
+    assert!(panics(|| shared.deliver()));
+    assert_eq!(ends.try_recv(), Ok(2));
 }

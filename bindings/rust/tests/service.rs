@@ -5,16 +5,19 @@ use std::fs;
 use std::io;
 use std::net::{Shutdown, TcpListener, TcpStream};
 use std::os::unix::net::UnixStream;
+use std::panic::{self, AssertUnwindSafe};
 use std::path::{Path, PathBuf};
 use std::process::{self, Child, Command, Stdio};
 use std::sync::atomic::{AtomicUsize, Ordering};
-use std::sync::mpsc::channel;
+use std::sync::mpsc::{channel, Receiver, TryRecvError};
 use std::sync::{Arc, Mutex};
 use std::thread;
 use std::time::{Duration, Instant};
 
 use vlm::service::{Connection, TlsFiles};
-use vlm::{AstKind, Condition, DeqFlags, EnqFlags, Error, Mode, ProcessId, Terms};
+use vlm::{
+    AstKind, Client, Condition, DeqFlags, EnqFlags, Error, Event, Mode, ProcessId, Shared, Terms,
+};
 
 const LONG: Duration = Duration::from_secs(30);
 
@@ -349,4 +352,108 @@ fn a_panic_of_a_routine_goes_on_in_the_delivery() {
     while connection.deliver() == 0 {
         thread::sleep(Duration::from_millis(1));
     }
+}
+
+#[test]
+fn closures_go_with_their_process_and_their_connection() {
+    let Some(daemon) = Daemon::new("closures") else {
+        return;
+    };
+    let (one, other) = (daemon.connection(|| ()), daemon.connection(|| ()));
+    let [p, q, r] = [&one, &other, &other].map(|it| it.declare(9, 2).unwrap());
+    let _held = one.lock(p, b"A", Mode::Ex).unwrap();
+    let started = |process| {
+        let (told, events) = channel();
+        let completion = move |event| told.send(event).unwrap();
+        let terms = Terms::new();
+        other
+            .start(process, b"A", Mode::Ex, terms, completion)
+            .unwrap();
+        events
+    };
+    let (first, second) = (started(q), started(r));
+    let (told, kept) = channel();
+    let terms = Terms::new().blocking(move |event| told.send(event).unwrap());
+    other.lock_with(q, b"B", Mode::Ex, terms).unwrap().keep();
+    other.rundown(q).unwrap();
+    let is_gone = |events: &Receiver<_>| events.try_recv() == Err(TryRecvError::Disconnected);
+    assert!(is_gone(&first) && is_gone(&kept) && !is_gone(&second));
+    assert_eq!(other.deliver(), 0);
+    drop(other);
+    assert!(is_gone(&second));
+}
+
+/// A value that panics as it is dropped.
+struct Bomb;
+
+impl Drop for Bomb {
+    fn drop(&mut self) {
+        panic::resume_unwind(Box::new("dropped"));
+    }
+}
+
+fn with_bomb() -> impl FnMut(Event) + Send {
+    let bomb = Bomb;
+    move |_| {
+        let _bomb = &bomb;
+    }
+}
+
+fn panics<T>(call: impl FnOnce() -> T) -> bool {
+    panic::catch_unwind(AssertUnwindSafe(call)).is_err()
+}
+
+#[test]
+fn a_panic_of_a_drop_goes_on_from_its_call() {
+    let Some(daemon) = Daemon::new("bombs") else {
+        return;
+    };
+    let (one, other) = (daemon.connection(|| ()), daemon.connection(|| ()));
+    let (p, q) = (one.declare(9, 9).unwrap(), one.declare(9, 9).unwrap());
+    let start = |process, name, terms| one.start(process, name, Mode::Ex, terms, with_bomb());
+    assert!(start(p, b"A", Terms::new()).is_ok());
+    while !panics(|| one.deliver()) {
+        thread::sleep(Duration::from_millis(1));
+    }
+    let noqueue = || Terms::new().flags(EnqFlags::NOQUEUE);
+    assert!(panics(|| start(q, b"A", noqueue())));
+    let terms = noqueue().blocking(with_bomb());
+    assert!(panics(|| one.lock_with(q, b"A", Mode::Ex, terms)));
+    // Two routines go with one process.
+    assert!(start(q, b"A", Terms::new()).is_ok() && start(q, b"A", Terms::new()).is_ok());
+    assert!(panics(|| one.rundown(q)));
+    // A guard that goes in a panic drops its routine too.
+    let terms = Terms::new().blocking(with_bomb());
+    let r = other.declare(9, 9).unwrap();
+    let guard = other.lock_with(r, b"B", Mode::Ex, terms).unwrap();
+    assert!(panics(move || {
+        let _guard = guard;
+        panic::resume_unwind(Box::new("of the program"))
+    }));
+    assert!(!panics(|| (one.deliver(), other.deliver())));
+}
+
+#[test]
+fn a_parent_is_a_lock_of_the_service() {
+    let Some(daemon) = Daemon::new("parents") else {
+        return;
+    };
+    let connection = daemon.connection(|| ());
+    let p = connection.declare(9, 2).unwrap();
+    let shared = Shared::new().unwrap();
+    let q = shared.declare(&Client::default()).unwrap();
+    let local = shared.lock(q, b"A", Mode::Ex).unwrap();
+    let parent = connection.lock(p, b"A", Mode::Ex).unwrap();
+    let below = || Terms::new().below(&local);
+    let refused = connection.lock_with(p, b"B", Mode::Ex, below());
+    assert_eq!(refused.unwrap_err(), Error::Badparam);
+    let refused = connection.start(p, b"B", Mode::Ex, below(), |_| ());
+    assert_eq!(refused, Err(Error::Badparam));
+    // A parent lock whose guard goes first stays.
+    let lock = parent.lock();
+    let below = Terms::new().below_lock(lock);
+    let child = connection.lock_with(p, b"B", Mode::Ex, below).unwrap();
+    drop(parent);
+    drop(child);
+    connection.deq(p, Some(lock), DeqFlags::default()).unwrap();
 }

@@ -201,6 +201,38 @@ fn a_child_guard_keeps_its_parent() {
 }
 
 #[test]
+fn a_kept_sublock_keeps_its_parent() {
+    let (shared, p, _) = two();
+    let parent = shared.lock(p, b"A", Mode::Nl).expect("a lock");
+    let below = Terms::new().below(&parent);
+    let child = shared.lock_with(p, b"B", Mode::Ex, below).expect("a lock");
+    drop(parent);
+    let kept = child.keep();
+    let parent = shared.look(|manager| manager.lock(kept)?.parent);
+    assert_eq!(shared.deq(p, kept), Ok(()));
+    assert_eq!(shared.deq(p, parent.expect("its parent")), Ok(()));
+    assert_eq!(resources(&shared), 0);
+}
+
+#[test]
+fn a_parent_is_of_the_same_lock_manager() {
+    let (shared, p, _) = two();
+    let (other, q, _) = two();
+    let here = shared.lock(p, b"A", Mode::Nl).expect("a lock");
+    let there = other.lock(q, b"A", Mode::Nl).expect("a lock");
+    let below = || Terms::new().below(&there);
+    let refused = [
+        shared.lock_with(p, b"B", Mode::Nl, below()).err(),
+        shared.lock_async(p, b"B", Mode::Nl, below()).err(),
+        shared.start(p, b"B", Mode::Nl, below(), |_| ()).err(),
+    ];
+    assert_eq!(refused, [Some(Error::Badparam); 3]);
+    let below = Terms::new().below(&here);
+    let clone = shared.clone();
+    assert!(clone.lock_with(p, b"B", Mode::Nl, below).is_ok());
+}
+
+#[test]
 fn a_guard_that_is_dropped_in_a_panic_writes_nothing() {
     let (shared, p, q) = two();
     let mut reader = shared

@@ -1,6 +1,6 @@
-//! Links the static library: VLM_PREFIX/lib/libvlm.a, where the environment variable VLM_PREFIX names the PREFIX of
-//! `./vlm install PREFIX`, else that of /usr/local, else that of Debian's package libvlm-dev. Without the library the
-//! crates can be checked, linted and documented, and not linked.
+//! Links the static library: VLM_PREFIX/lib/libvlm.a, where the environment variable VLM_PREFIX is the absolute path of
+//! the PREFIX of `./vlm install PREFIX`, else that of /usr/local, else that of Debian's package libvlm-dev. Without the
+//! library the crates can be checked, linted and documented, and not linked.
 
 use std::env;
 use std::path::PathBuf;
@@ -10,8 +10,12 @@ const FOLDERS: [&str; 3] = ["/usr/local/lib", "/usr/lib/x86_64-linux-gnu", "/usr
 
 fn main() {
     println!("cargo:rerun-if-env-changed=VLM_PREFIX");
-    let folders = match env::var_os("VLM_PREFIX") {
-        Some(prefix) => vec![PathBuf::from(prefix).join("lib")],
+    let folders = match env::var_os("VLM_PREFIX").map(PathBuf::from) {
+        // (cargo does not tell this script the folder where it was called)
+        Some(prefix) if prefix.is_relative() => {
+            panic!("VLM_PREFIX is {prefix:?}, and has to be an absolute path")
+        }
+        Some(prefix) => vec![prefix.join("lib")],
         None => FOLDERS.iter().map(PathBuf::from).collect(),
     };
     if let Some(folder) = folders.iter().find(|it| it.join("libvlm.a").is_file()) {

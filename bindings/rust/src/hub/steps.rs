@@ -111,8 +111,8 @@ impl Step {
     }
 }
 
-/// The name in a new request, without a check: 0 to 32 bytes. Of a longer name it has the first 32. A resource name has
-/// 1 to 31, so such a request is refused by IVBUFLEN either way.
+/// The name in a new request: 1 to 31 bytes, or 0 of a name whose length is not allowed. Such a request is refused by
+/// IVBUFLEN. An entry from elsewhere may have up to 32.
 #[derive(Clone, Copy, PartialEq, Eq, Hash)]
 pub struct Name {
     // (with zeros after the name)

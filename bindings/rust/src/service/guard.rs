@@ -1,16 +1,18 @@
 //! A lock of the service that is given up on drop.
 
 use std::fmt;
+use std::mem;
 use std::thread;
 
-use super::raw::{self, Answered, Known, Wanted};
+use super::raw::{self, Answered, Wanted};
 use super::{checked, Connection};
 use crate::{Condition, EnqFlags, Error, LockId, Mode, ProcessId, Terms};
 
 /// A lock of the lock service that is held. Dropping it gives the lock up, and writes the value that
 /// [`ServedGuard::write`] named; a guard that a panic drops writes nothing.
 ///
-/// A drop can't tell that the lock was lost meanwhile: [`ServedGuard::release`] does.
+/// A drop can't tell that the lock was lost meanwhile: [`ServedGuard::release`] does. A lock with sublocks is not given
+/// up: drop the guards of its sublocks first.
 #[must_use = "a guard that is dropped gives its lock up"]
 pub struct ServedGuard {
     connection: Connection,
@@ -101,9 +103,7 @@ impl ServedGuard {
             (mode >= self.mode && !is_writer) || (self.mode, mode) == (Mode::Pw, Mode::Ex);
         let written = self.written.filter(|_| is_writer && !is_read);
         let flags = flags_of(terms.flags, is_read, written.map(|(_, is_wide)| is_wide));
-        let blocking = terms
-            .blocking
-            .map_or(0, |it| raw::number_of(Known::Blocking(it)));
+        let blocking = self.connection.blocking_of(self.process, terms.blocking);
         let wanted = Wanted {
             process: self.process.0,
             mode: mode as u32,
@@ -115,13 +115,14 @@ impl ServedGuard {
         };
         let value = written.map_or([0; 64], |(value, _)| value);
         let found = self.connection.asked(&wanted, None, value)?;
-        raw::forget(self.blocking);
-        (self.blocking, self.mode) = (blocking, mode);
+        let old = mem::replace(&mut self.blocking, blocking);
+        self.mode = mode;
         if is_read {
             (self.value, self.status, self.flags) = (found.value, found.status, flags);
         } else if written.is_some() {
             self.written = None;
         }
+        raw::forget(old);
         Ok(())
     }
 
@@ -144,7 +145,8 @@ impl ServedGuard {
         checked(answer)
     }
 
-    /// Lets the guard go and leaves the lock held. [`Connection::deq`] gives it up.
+    /// Lets the guard go and leaves the lock held. [`Connection::deq`] gives it up. The blocking routine lives until
+    /// the process is run down or the connection ends.
     pub fn keep(mut self) -> LockId {
         self.is_held = false;
         self.blocking = 0;

@@ -29,9 +29,10 @@ use std::sync::{Arc, Mutex};
 use std::time::Duration;
 
 use crate::condition::answered;
+use crate::shared::Blocking;
 use crate::{DeqFlags, EnqFlags, Error, Event, LockId, Mode, ProcessId, Terms};
 pub use guard::ServedGuard;
-use raw::{Answered, Connected, Known, Opening, Wanted};
+use raw::{Answered, Connected, Known, LostRun, Opening, Wanted};
 
 /// Files in PEM's form, for addresses as in `tls:HOST:PORT`.
 #[derive(Clone, Debug, PartialEq, Eq)]
@@ -51,18 +52,7 @@ pub struct TlsFiles {
 /// may not use it: BADPARAM.
 #[derive(Clone)]
 pub struct Connection {
-    client: Arc<Session>,
-}
-
-struct Session {
-    client: Connected,
-    loss: usize,
-}
-
-impl Drop for Session {
-    fn drop(&mut self) {
-        raw::forget(self.loss);
-    }
+    client: Arc<Connected>,
 }
 
 /// What an answer of the library is to a caller.
@@ -80,7 +70,7 @@ fn whole_seconds(time: Duration) -> Option<u32> {
 impl Connection {
     /// Connects to the socket that VLM_SOCKET names, or to /run/vlm/lock.sock. Lost: there is no service.
     pub fn open() -> Result<Connection, Error> {
-        Connection::opened(&Opening::default(), 0)
+        Connection::opened(&Opening::default(), None)
     }
 
     /// Connects to a socket, or to the replicas at `tcp:HOST:PORT,HOST:PORT..` or, by TLS, `tls:HOST:PORT,HOST:PORT..`.
@@ -133,19 +123,15 @@ impl Connection {
             lease_seconds: whole_seconds(lease).ok_or(Error::Badparam)?,
             files: [certificate?, key?, authority?],
         };
-        Connection::opened(
-            &how,
-            raw::number_of(Known::Loss(Arc::new(Mutex::new(on_lost)))),
-        )
+        Connection::opened(&how, Some(Arc::new(Mutex::new(on_lost))))
     }
 
-    fn opened(how: &Opening, loss: usize) -> Result<Connection, Error> {
+    fn opened(how: &Opening, loss: Option<LostRun>) -> Result<Connection, Error> {
         match Connected::open(how, loss) {
             Ok(client) => Ok(Connection {
-                client: Arc::new(Session { client, loss }),
+                client: Arc::new(client),
             }),
             Err(answer) => {
-                raw::forget(loss);
                 checked(answer)?;
                 Err(Error::Lost)
             }
@@ -153,7 +139,14 @@ impl Connection {
     }
 
     fn client(&self) -> &Connected {
-        &self.client.client
+        &self.client
+    }
+
+    /// The number of a blocking routine, or 0.
+    fn blocking_of(&self, process: ProcessId, routine: Option<Blocking>) -> usize {
+        routine.map_or(0, |it| {
+            self.client().number_of(process.0, Known::Blocking(it))
+        })
     }
 
     /// Begins a new session after a loss, without processes. Wait for no call of another thread meanwhile.
@@ -171,7 +164,7 @@ impl Connection {
         Ok(ProcessId(pid))
     }
 
-    /// Ends a process with all its locks.
+    /// Ends a process with all its locks and routines.
     pub fn rundown(&self, process: ProcessId) -> Result<(), Error> {
         checked(self.client().rundown(process.0))
     }
@@ -190,14 +183,13 @@ impl Connection {
         terms: Terms,
     ) -> Result<ServedGuard, Error> {
         let flags = EnqFlags(terms.flags.0 & !EnqFlags::SYNCSTS.0) | EnqFlags::VALBLK;
-        let blocking = terms
-            .blocking
-            .map_or(0, |it| raw::number_of(Known::Blocking(it)));
+        let lock = terms.served_parent()?;
+        let blocking = self.blocking_of(process, terms.blocking);
         let wanted = Wanted {
             process: process.0,
             mode: mode as u32,
             flags: flags.0.into(),
-            lock: terms.parent,
+            lock,
             milliseconds: terms.longest,
             completion: 0,
             blocking,
@@ -213,8 +205,9 @@ impl Connection {
         ))
     }
 
-    /// Asks for a lock and does not wait. The completion routine is told once how the request ended. A blocking routine
-    /// and a longest wait among the terms are ignored. [`Connection::deq`] gives the lock up.
+    /// Asks for a lock and does not wait. The completion routine is told once how the request ended; not if its process
+    /// is run down first. A blocking routine and a longest wait among the terms are ignored. [`Connection::deq`] gives
+    /// the lock up.
     pub fn start(
         &self,
         process: ProcessId,
@@ -223,13 +216,15 @@ impl Connection {
         terms: Terms,
         completion: impl FnMut(Event) + Send + 'static,
     ) -> Result<LockId, Error> {
-        let number = raw::number_of(Known::Completion(Arc::new(Mutex::new(completion))));
+        let lock = terms.served_parent()?;
+        let routine = Known::Completion(Arc::new(Mutex::new(completion)));
+        let number = self.client().number_of(process.0, routine);
         let flags = EnqFlags(terms.flags.0 & !EnqFlags::SYNCSTS.0) | EnqFlags::VALBLK;
         let wanted = Wanted {
             process: process.0,
             mode: mode as u32,
             flags: flags.0.into(),
-            lock: terms.parent,
+            lock,
             milliseconds: 0,
             completion: number,
             blocking: 0,
@@ -281,7 +276,7 @@ impl Connection {
     }
 
     /// Calls the routines whose requests have ended or whose locks are in the way, oldest first. Returns how many it
-    /// called. A routine may make any call. A panic of a routine goes on in the caller.
+    /// called. A routine may make any call. If one panics, the others run, and the panic goes on from here.
     pub fn deliver(&self) -> u32 {
         self.client().dispatch()
     }

@@ -1,14 +1,14 @@
 //! The structs and calls of include/vlm_client.h. All that is unsafe about connections stands here.
 
-use std::collections::BTreeMap;
+use std::collections::{BTreeMap, BTreeSet};
 use std::ffi::{c_char, c_void, CStr, CString};
-use std::panic::{catch_unwind, resume_unwind, AssertUnwindSafe};
 use std::ptr;
 use std::sync::{Arc, Mutex, MutexGuard, PoisonError};
 
 use vlm_sys::client::*;
 use vlm_sys::threads::{Declaration, Dequeue, Event as RawEvent, Request};
 
+use crate::panics::{going_on, guarded};
 use crate::shared::Blocking;
 use crate::Event;
 
@@ -29,61 +29,90 @@ pub enum Known {
     Loss(LostRun),
 }
 
-static KNOWN: Mutex<(usize, BTreeMap<usize, Known>)> = Mutex::new((0, BTreeMap::new()));
-// What a routine has panicked with: the delivery goes on with it.
-type Panic = Box<dyn std::any::Any + Send>;
-
-thread_local! {
-    static PANIC: std::cell::RefCell<Option<Panic>> = const { std::cell::RefCell::new(None) };
+/// A closure, and what it belongs to: a connection, and a process of it or 0.
+struct Owned {
+    connection: usize,
+    process: u32,
+    closure: Known,
 }
 
-fn known() -> MutexGuard<'static, (usize, BTreeMap<usize, Known>)> {
-    KNOWN.lock().unwrap_or_else(PoisonError::into_inner)
+/// The closures by their numbers, and these by connections and processes. Connections have numbers too.
+struct Table {
+    last_number: usize,
+    closures: BTreeMap<usize, Owned>,
+    numbers: BTreeSet<(usize, u32, usize)>,
 }
 
-/// Gives a closure a number, from 1.
-pub fn number_of(closure: Known) -> usize {
-    let mut table = known();
-    table.0 += 1;
-    let number = table.0;
-    table.1.insert(number, closure);
-    number
+impl Table {
+    fn remove(&mut self, number: usize) -> Option<Owned> {
+        let owned = self.closures.remove(&number)?;
+        self.numbers
+            .remove(&(owned.connection, owned.process, number));
+        Some(owned)
+    }
+}
+
+static KNOWN: Mutex<Table> = Mutex::new(Table {
+    last_number: 0,
+    closures: BTreeMap::new(),
+    numbers: BTreeSet::new(),
+});
+
+fn locked<T: ?Sized>(mutex: &Mutex<T>) -> MutexGuard<'_, T> {
+    mutex.lock().unwrap_or_else(PoisonError::into_inner)
+}
+
+/// A number that no closure and no connection has had, from 1.
+fn new_number() -> usize {
+    let mut table = locked(&KNOWN);
+    table.last_number += 1;
+    table.last_number
+}
+
+fn closure_of(context: *mut c_void) -> Option<Known> {
+    let table = locked(&KNOWN);
+    let owned = table.closures.get(&(context as usize))?;
+    Some(owned.closure.clone())
 }
 
 /// Forgets the closure of a number; 0 is none.
 pub fn forget(number: usize) {
     // (it is dropped after the table is free again)
-    let _closure = known().1.remove(&number);
+    let owned = locked(&KNOWN).remove(number);
+    going_on(|| guarded(|| drop(owned)));
 }
 
-fn note_panic(result: std::thread::Result<()>) {
-    if let Err(panic) = result {
-        PANIC.with(|place| *place.borrow_mut() = Some(panic));
-    }
+/// Forgets the closures of a connection, or those of a process of it.
+fn forget_all(connection: usize, process: Option<u32>) {
+    let (first, last) = process.map_or((0, u32::MAX), |pid| (pid, pid));
+    let range = (connection, first, 0)..=(connection, last, usize::MAX);
+    let mut table = locked(&KNOWN);
+    let numbers: Vec<_> = table.numbers.range(range).map(|it| it.2).collect();
+    let gone: Vec<_> = numbers.into_iter().map(|it| table.remove(it)).collect();
+    drop(table);
+    // (one by one: a second panic during the first would abort)
+    gone.into_iter().for_each(|it| guarded(|| drop(it)));
 }
 
 extern "C" fn run(context: *mut c_void, event: *const RawEvent) {
-    let number = context as usize;
-    let closure = known().1.get(&number).cloned();
     // SAFETY: the library passes an event that lives as long as this call.
     let event = Event::of(unsafe { &*event });
-    let (Some(Known::Blocking(routine)) | Some(Known::Completion(routine))) = &closure else {
-        return;
+    let routine = match closure_of(context) {
+        Some(Known::Blocking(routine)) => routine,
+        Some(Known::Completion(routine)) => {
+            forget(context as usize);
+            routine
+        }
+        _ => return,
     };
-    if matches!(closure, Some(Known::Completion(_))) {
-        forget(number);
-    }
-    note_panic(catch_unwind(AssertUnwindSafe(|| {
-        (routine.lock().unwrap_or_else(PoisonError::into_inner))(event);
-    })));
+    guarded(|| locked(&routine)(event));
+    guarded(|| drop(routine));
 }
 
 extern "C" fn tell_loss(context: *mut c_void) {
-    let closure = known().1.get(&(context as usize)).cloned();
-    if let Some(Known::Loss(routine)) = closure {
-        note_panic(catch_unwind(AssertUnwindSafe(|| {
-            (routine.lock().unwrap_or_else(PoisonError::into_inner))();
-        })));
+    if let Some(Known::Loss(routine)) = closure_of(context) {
+        guarded(|| locked(&routine)());
+        guarded(|| drop(routine));
     }
 }
 
@@ -107,8 +136,11 @@ pub struct Answered {
     pub value: [u8; 64],
 }
 
-/// A client of the library.
-pub struct Connected(*mut Client);
+/// A client of the library. Its closures go with it.
+pub struct Connected {
+    client: *mut Client,
+    number: usize,
+}
 
 // SAFETY: any thread may make any call of a client.
 unsafe impl Send for Connected {}
@@ -128,8 +160,12 @@ fn pointer_of(text: &Option<CString>) -> *const c_char {
 }
 
 impl Connected {
-    /// Connects to a socket, or to addresses with a lease. `loss` is the number of a closure, or 0.
-    pub fn open(how: &Opening, loss: usize) -> Result<Connected, u32> {
+    /// Connects to a socket, or to addresses with a lease.
+    pub fn open(how: &Opening, loss: Option<LostRun>) -> Result<Connected, u32> {
+        let mut opened = Connected {
+            client: ptr::null_mut(),
+            number: new_number(),
+        };
         let mut options = ClientOptions::new();
         options.delivery = BY_PROGRAM;
         options.lease_seconds = how.lease_seconds;
@@ -137,35 +173,51 @@ impl Connected {
         options.certificate = pointer_of(&how.files[0]);
         options.key = pointer_of(&how.files[1]);
         options.authority = pointer_of(&how.files[2]);
-        if loss != 0 {
+        if let Some(loss) = loss {
             options.on_lost = Some(tell_loss);
-            options.lost_context = loss as *mut c_void;
+            options.lost_context = opened.number_of(0, Known::Loss(loss)) as *mut c_void;
         }
-        let mut raw = ptr::null_mut();
         // SAFETY: the options and their texts live as long as the call, which copies them.
-        let status = unsafe { vlm_client_open(&options, &mut raw) };
-        if status == NORMAL {
-            Ok(Connected(raw))
-        } else {
-            Err(status)
+        match unsafe { vlm_client_open(&options, &mut opened.client) } {
+            NORMAL => Ok(opened),
+            status => Err(status),
         }
+    }
+
+    /// Gives a closure of a process a number.
+    pub fn number_of(&self, process: u32, closure: Known) -> usize {
+        let number = new_number();
+        let owned = Owned {
+            connection: self.number,
+            process,
+            closure,
+        };
+        let mut table = locked(&KNOWN);
+        table.numbers.insert((self.number, process, number));
+        table.closures.insert(number, owned);
+        number
     }
 
     pub fn reopen(&self) -> u32 {
         // SAFETY: the client is open until it is dropped.
-        unsafe { vlm_client_reopen(self.0) }
+        unsafe { vlm_client_reopen(self.client) }
     }
 
     pub fn declare(&self, quota: u32, requests: u32, pid: &mut u32) -> u32 {
         let mut declaration = Declaration::new();
         (declaration.quota, declaration.requests) = (quota, requests);
         // SAFETY: the same, and the references live as long as the call.
-        unsafe { vlm_client_declare(self.0, &declaration, pid) }
+        unsafe { vlm_client_declare(self.client, &declaration, pid) }
     }
 
     pub fn rundown(&self, pid: u32) -> u32 {
         // SAFETY: the client is open.
-        unsafe { vlm_client_rundown(self.0, pid) }
+        let status = unsafe { vlm_client_rundown(self.client, pid) };
+        // (after a loss the closures are told of it)
+        if status == NORMAL {
+            going_on(|| forget_all(self.number, Some(pid)));
+        }
+        status
     }
 
     /// Makes a request: for a new lock of this name, or without a name a conversion. `value` is what it may write.
@@ -187,10 +239,10 @@ impl Connected {
         let answer = unsafe {
             match name {
                 Some(name) if wanted.completion != 0 => {
-                    vlm_client_start_enq(self.0, &mut raw, name.as_ptr(), name.len())
+                    vlm_client_start_enq(self.client, &mut raw, name.as_ptr(), name.len())
                 }
-                Some(name) => vlm_client_enq(self.0, &mut raw, name.as_ptr(), name.len()),
-                None => vlm_client_convert(self.0, &mut raw),
+                Some(name) => vlm_client_enq(self.client, &mut raw, name.as_ptr(), name.len()),
+                None => vlm_client_convert(self.client, &mut raw),
             }
         };
         Answered {
@@ -214,29 +266,27 @@ impl Connected {
             (raw.value, raw.wide) = (bytes.as_ptr(), is_wide.into());
         }
         // SAFETY: the client is open, and the value lives as long as the call.
-        unsafe { vlm_client_deq(self.0, &raw) }
+        unsafe { vlm_client_deq(self.client, &raw) }
     }
 
     pub fn token(&self, lock: u32, token: &mut u64) -> u32 {
         // SAFETY: the client is open, and the reference lives as long as the call.
-        unsafe { vlm_client_token(self.0, lock, token) }
+        unsafe { vlm_client_token(self.client, lock, token) }
     }
 
     /// Runs the routines that are to be called. A panic of one of them goes on here.
     pub fn dispatch(&self) -> u32 {
         let mut delivered = 0;
         // SAFETY: the client is open.
-        unsafe { vlm_client_dispatch(self.0, &mut delivered) };
-        if let Some(panic) = PANIC.with(|place| place.borrow_mut().take()) {
-            resume_unwind(panic);
-        }
+        going_on(|| unsafe { vlm_client_dispatch(self.client, &mut delivered) });
         delivered
     }
 }
 
 impl Drop for Connected {
     fn drop(&mut self) {
-        // SAFETY: nobody else has the client, and no routine of it runs: a delivery has it.
-        unsafe { vlm_client_close(self.0) };
+        // SAFETY: nobody else has the client, and no routine of it runs: a delivery has it. It may be null.
+        unsafe { vlm_client_close(self.client) };
+        going_on(|| forget_all(self.number, None));
     }
 }

@@ -129,7 +129,8 @@ impl LockFuture {
 
     /// The guard of a request that has ended by a grant.
     fn guard(&mut self, event: Option<Event>) -> Result<Guard, Error> {
-        let (event, asked) = event.zip(self.asked.take()).ok_or(Error::Nonexpr)?;
+        let asked = self.asked.take().ok_or(Error::Nonexpr)?;
+        let event = event.ok_or_else(|| self.shared.end_of(self.process))?;
         let status = event.status.unwrap_or(Condition::Normal).success()?;
         let granted = Granted::asked_by(asked.flags).map(|mut granted| {
             returned(&mut granted, &event, status);
@@ -204,7 +205,7 @@ impl Guard {
         mut conversion: Conversion,
         event: Option<Event>,
     ) -> Result<(), Error> {
-        let event = event.ok_or(Error::Nonexpr)?;
+        let event = event.ok_or_else(|| self.shared().end_of(self.process()))?;
         let status = event.status.unwrap_or(Condition::Normal).success()?;
         returned(&mut conversion.granted, &event, status);
         self.converted(conversion);
@@ -234,7 +235,7 @@ impl Drop for ConvertFuture<'_> {
         let ended = locked(&self.ending).ended;
         match ended {
             Some(event) => drop(self.guard.conversion_ended(conversion, event)),
-            None if is_over => self.guard.read_mode(),
+            None if is_over => self.guard.read_conversion(conversion),
             None => {}
         }
     }

@@ -33,6 +33,10 @@ impl Held {
         self.written.lock().unwrap_or_else(PoisonError::into_inner)
     }
 
+    pub(super) fn is_of(&self, shared: &Shared) -> bool {
+        Arc::ptr_eq(&self.shared.layer, &shared.layer)
+    }
+
     fn give_up(&self, written: Option<Value>) -> Result<(), Error> {
         let lock = self.lock.0;
         self.shared
@@ -245,7 +249,7 @@ impl Guard {
             granted: Granted::of(bytes_of(written), asked.flags),
             asked,
             is_read,
-            is_written: written.is_some(),
+            is_written: written.is_some() && !is_read,
         }
     }
 
@@ -261,11 +265,14 @@ impl Guard {
         (self.mode, self.blocking) = (asked.mode, asked.blocking);
     }
 
-    /// Notes the mode that the lock holds, where nothing else is known of its conversion.
-    pub(super) fn read_mode(&mut self) {
+    /// Notes a conversion that has ended, if it was granted: the lock holds its mode. What it read is not known.
+    pub(super) fn read_conversion(&mut self, mut conversion: Conversion) {
         let lock = self.lock();
-        let held = self.held.shared.look(|manager| manager.lock(lock)?.held);
-        self.mode = held.unwrap_or(self.mode);
+        let held = self.shared().look(|manager| manager.lock(lock)?.held);
+        if held == Some(conversion.asked.mode) {
+            conversion.is_read = false;
+            self.converted(conversion);
+        }
     }
 
     pub(super) fn shared(&self) -> &Shared {
@@ -284,7 +291,8 @@ impl Guard {
         self.held.release()
     }
 
-    /// Lets the guard go and leaves the lock held. [`Shared::deq`] gives it up.
+    /// Lets the guard go and leaves the lock held, and with it the parents' locks whose guards are gone:
+    /// [`Lock::parent`](crate::Lock::parent) tells their IDs. [`Shared::deq`] gives each of them up.
     pub fn keep(self) -> LockId {
         self.held.is_held.store(false, Relaxed);
         self.lock()

@@ -4,7 +4,7 @@ use std::fmt;
 use std::time::Duration;
 
 use super::raw::{self, Layer};
-use super::terms::milliseconds;
+use super::terms::{milliseconds, rounded};
 use super::Shared;
 use crate::condition::Error;
 use crate::manager::random_keys;
@@ -94,7 +94,7 @@ impl Options {
     /// A request that has waited less is no victim. While the most recent deadlocked request is that young, older
     /// deadlocks wait with it.
     pub fn victims_after(mut self, age: Duration) -> Options {
-        self.words.victim_milliseconds = milliseconds(age);
+        self.words.victim_milliseconds = u32::try_from(rounded(age)).unwrap_or(u32::MAX);
         self
     }
 

@@ -224,6 +224,9 @@ impl Shared {
         routines: Option<Routines>,
         value: Option<&mut [u8; 64]>,
     ) -> Result<(LockId, Condition), Error> {
+        if !asked.kept.iter().all(|parent| parent.is_of(self)) {
+            return Err(Error::Badparam);
+        }
         let mut words = raw::Request {
             pid: asked.process.0,
             mode: asked.mode as u32,
@@ -335,6 +338,12 @@ impl Shared {
         };
         let value = value.map(|value| guard::bytes_of(Some(value)));
         answered(self.layer.deq(&mut words, value.as_ref())).map(drop)
+    }
+
+    /// How a process has ended: NONEXPR, or DEPARTED.
+    fn end_of(&self, process: ProcessId) -> Error {
+        // (any call for the process tells it, and this one changes nothing)
+        self.descriptor_of(process).err().unwrap_or(Error::Nonexpr)
     }
 
     /// Cancels the queued request of a lock, whose wait fails by ABORT or, for a conversion, by CANCEL. DEPARTED,

@@ -2,12 +2,9 @@
 //! here.
 //!
 //! A closure is given to the layer as a pointer to a box. The layer gives the pointer back once, to `released`, when it
-//! uses it no more. A panic does not leave a closure: it is kept for the call of this crate that called it.
+//! uses it no more.
 
-use std::any::Any;
-use std::cell::RefCell;
 use std::ffi::{c_int, c_void};
-use std::panic::{catch_unwind, resume_unwind, AssertUnwindSafe};
 use std::ptr::{null_mut, NonNull};
 use std::thread;
 
@@ -16,6 +13,7 @@ pub use vlm_sys::threads::*;
 use super::hooks::Hooks;
 use super::routines::Routines;
 use crate::manager::LockManager;
+use crate::panics::{going_on, guarded, kept};
 use crate::raw::Vlm;
 
 /// A layer, with the hooks that it calls.
@@ -96,7 +94,7 @@ impl Layer {
         };
         // (a request that was accepted has a status, or a success as its answer)
         if !context.is_null() && words.status == 0 && status != 1 && status != 2 {
-            released(context, null_mut());
+            going_on(|| released(context, null_mut()));
         }
         status
     }
@@ -112,22 +110,18 @@ impl Layer {
     pub fn dispatch(&self, pid: Option<u32>, delivered: &mut u32) -> u32 {
         let layer = self.pointer.as_ptr();
         // SAFETY: as for the other calls.
-        let status = unsafe {
+        going_on(|| unsafe {
             match pid {
                 None => vlm_threads_dispatch(layer, delivered),
                 Some(pid) => vlm_threads_process_dispatch(layer, pid, delivered),
             }
-        };
-        go_on();
-        status
+        })
     }
 
     /// Searches for deadlocks. A panic of a hook goes on from here.
     pub fn search(&self, victims: &mut u32) -> u32 {
         // SAFETY: as for the other calls.
-        let status = unsafe { vlm_threads_search(self.pointer.as_ptr(), victims) };
-        go_on();
-        status
+        going_on(|| unsafe { vlm_threads_search(self.pointer.as_ptr(), victims) })
     }
 
     /// Lets a closure read the lock manager.
@@ -135,8 +129,9 @@ impl Layer {
         let mut look = (Some(reader), None);
         let context: *mut (Option<F>, Option<T>) = &mut look;
         // SAFETY: `read` is given the pointer to `look`, which lives during the call.
-        unsafe { vlm_threads_look(self.pointer.as_ptr(), read::<T, F>, context.cast()) };
-        go_on();
+        going_on(|| unsafe {
+            vlm_threads_look(self.pointer.as_ptr(), read::<T, F>, context.cast())
+        });
         look.1.expect("the reader has returned")
     }
 }
@@ -158,35 +153,14 @@ struct Pointer<T>(*mut T);
 unsafe impl<T> Send for Pointer<T> {}
 
 fn is_closed(layer: &Pointer<vlm_sys::threads::Layer>, hooks: &Pointer<Hooks>) -> bool {
+    // (a panic of a closure that the close drops has nowhere to go on)
     // SAFETY: the layer is open, and nobody has a name of it any more.
-    let is_closed = unsafe { vlm_threads_close(layer.0) } == 1;
-    if is_closed {
+    let (status, _panic) = kept(|| unsafe { vlm_threads_close(layer.0) });
+    if status == 1 {
         // SAFETY: the layer, which called them, is gone.
         drop(unsafe { Box::from_raw(hooks.0) });
-        // (a panic of a closure that the close dropped has nowhere to go on)
-        PANIC.with(|kept| kept.borrow_mut().take());
     }
-    is_closed
-}
-
-thread_local! {
-    /// A panic of a closure that the C library called.
-    static PANIC: RefCell<Option<Box<dyn Any + Send>>> = const { RefCell::new(None) };
-}
-
-fn guarded(run: impl FnOnce()) {
-    if let Err(panic) = catch_unwind(AssertUnwindSafe(run)) {
-        PANIC.with(|kept| {
-            kept.borrow_mut().get_or_insert(panic);
-        });
-    }
-}
-
-/// Goes on with a panic of a closure, if there was one.
-fn go_on() {
-    if let Some(panic) = PANIC.with(|kept| kept.borrow_mut().take()) {
-        resume_unwind(panic);
-    }
+    status == 1
 }
 
 /// Gives the routines of a request to the layer, until `released`.
@@ -211,7 +185,10 @@ extern "C" fn blocking(context: *mut c_void, event: *const Event) {
 
 extern "C" fn released(context: *mut c_void, _: *mut c_void) {
     // SAFETY: the context is the box of `give`, and nobody uses it any more.
-    guarded(|| drop(unsafe { Box::from_raw(context.cast::<Routines>()) }));
+    let routines = *unsafe { Box::from_raw(context.cast::<Routines>()) };
+    // (one by one: a second panic during the first would abort)
+    guarded(|| drop(routines.completion));
+    guarded(|| drop(routines.blocking));
 }
 
 extern "C" fn told_deadlock(context: *mut c_void, deadlock: *const Deadlock) {

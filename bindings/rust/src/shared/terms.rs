@@ -92,7 +92,7 @@ impl Client<'_> {
 pub struct Terms {
     pub(crate) flags: EnqFlags,
     /// The parent lock, or 0.
-    pub(crate) parent: u32,
+    pub(super) parent: u32,
     pub(super) kept: Option<Arc<Held>>,
     /// The longest wait in milliseconds, or 0.
     pub(crate) longest: u32,
@@ -114,7 +114,8 @@ impl Terms {
     }
 
     /// The parent lock of a new lock. The guard of the new lock keeps the parent's lock until it is dropped itself, in
-    /// whatever order the two are dropped. A conversion ignores it.
+    /// whatever order the two are dropped. A conversion ignores it. A request to another lock manager, or to the lock
+    /// service, is refused by BADPARAM.
     #[must_use]
     pub fn below(mut self, parent: &Guard) -> Terms {
         (self.parent, self.kept) = (parent.lock().0, Some(parent.held()));
@@ -126,6 +127,14 @@ impl Terms {
     pub fn below_lock(mut self, parent: LockId) -> Terms {
         (self.parent, self.kept) = (parent.0, None);
         self
+    }
+
+    /// The parent lock at the lock service, which has no lock of a [`Guard`].
+    pub(crate) fn served_parent(&self) -> Result<u32, Error> {
+        match self.kept {
+            Some(_) => Err(Error::Badparam),
+            None => Ok(self.parent),
+        }
     }
 
     /// Waits at most this long, rounded up to milliseconds. A start ignores it.
@@ -147,8 +156,12 @@ impl Terms {
     }
 }
 
-/// A time in milliseconds, rounded up to 1 and more. One that is too long for the library has no end: 0.
+/// A time in milliseconds, rounded up.
+pub(super) fn rounded(time: Duration) -> u128 {
+    (time.as_nanos() + 999_999) / 1_000_000
+}
+
+/// The same, from 1. A time that is too long for the library has no end: 0.
 pub(super) fn milliseconds(time: Duration) -> u32 {
-    let count = (time.as_nanos() + 999_999) / 1_000_000;
-    u32::try_from(count.max(1)).unwrap_or(0)
+    u32::try_from(rounded(time).max(1)).unwrap_or(0)
 }

@@ -1,7 +1,7 @@
 //! Entries, cuts and replays.
 
 use vlm::hub::{Entry, Step};
-use vlm::{LockId, LockManager, Mode};
+use vlm::{Condition, Error, LockId, LockManager, Mode};
 
 use crate::pair::declaration;
 use crate::twins::{full, picture, replayed, setting, steps, writing, Twins, BLOCK};
@@ -63,6 +63,13 @@ fn entries_have_all_of_a_step() {
     );
     assert_eq!(requests[1].0.parent, Some(LockId(1).into()));
     assert_eq!(format!("{:?}", requests[1].1), r#"b"\x00\xff""#);
+    // Of a name that is too long, nothing is kept.
+    let refusal = Condition::Failed(Error::Ivbuflen);
+    let mut refused = entries
+        .iter()
+        .filter(|entry| entry.answer.condition == refusal);
+    let step = refused.next().map(|entry| entry.step);
+    assert!(matches!(step, Some(Step::Enq { name, .. }) if name.as_bytes().is_empty()));
 }
 
 #[test]
