@@ -42,9 +42,10 @@ static struct session *session_of(const struct dispatcher *dispatcher, uint64_t 
 
 /* A beat of a session comes by. */
 void keep_lease(struct session *session) {
+    /* (also of one that was killed: a chunk has the last beat of a session alone, so its end has to name that one) */
+    session->beat = session->dispatcher->place;
     if (session->is_killed)
         return;
-    session->beat = session->dispatcher->place;
     session->heard = session->dispatcher->now;
     session->overdue = 0;
 }

@@ -246,7 +246,8 @@ class Service(OverReplicas):
         there, here = self.begun(0), self.lines(1)
         before = self.connections(here)
         ended = self.local.processes["replica 0"]
-        self.local.signal("replica 0", signal.SIGTERM)
+        # (its list has the signal too, as at the end of a unit)
+        os.killpg(ended.pid, signal.SIGTERM)
         self.assertEqual((ended.wait(PATIENCE), there.next()), (0, None))
         # (a silent replica would have its connections for 30 seconds more)
         end = time.monotonic() + 15

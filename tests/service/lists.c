@@ -2,8 +2,8 @@
  *
  * Time, the list, the replicas and their clients are all made up here and driven by random numbers. Batches reach the
  * list late, now and then twice; replicas run it at their own pace, stop for a while, end in order or not and start
- * anew, from what was kept or from the whole list. Clients ask for locks with sessions that have leases, stop for a
- * while, and go on at another replica. A run fails
+ * anew, from what a chunk would keep or from the whole list. Clients ask for locks with sessions that have leases, stop
+ * for a while, and go on at another replica; now and then an administrator kills a session. A run fails
  * - if two clients believe to hold one resource at a time, each counting its lease from before it sent what was
  *   answered;
  * - if replicas that have run the same part of the list tell different resources, locks or sessions;
@@ -22,6 +22,7 @@ enum {
     SECONDS = 5, /* of leases */
     STEPS = 6000,
     MOST_BATCHES = 1 << 16,
+    MOST_SESSIONS = 4096,
     ROOM = 1 << 16,
     LINE = 128
 };
@@ -45,7 +46,16 @@ struct node {
     uint32_t delay;    /* of its batches, or 0: random ones */
     struct bytes sent; /* a batch that is on its way to the list, and when it comes there */
     uint64_t arrival;
-    bool is_unheard; /* it is in the list, and the replica does not know */
+    bool is_unheard;    /* it is in the list, and the replica does not know */
+    struct link *admin; /* an administrator, or null */
+};
+
+/* The last beat of a session, before its end if that came: its batch, and its place there. */
+struct beat {
+    uint64_t session;
+    size_t batch;
+    uint32_t number;
+    bool has_ended;
 };
 
 /* A resource that a client asks for or has. */
@@ -76,6 +86,8 @@ static const uint64_t lease = (uint64_t)SECONDS * 1000; /* in milliseconds */
 static struct list list, kept;
 static struct node nodes[REPLICAS];
 static struct client clients[CLIENTS];
+static struct beat beats[MOST_SESSIONS];
+static size_t beat_count;
 static uint64_t now, seed;
 static uint32_t delay_of_ends; /* of batches that end sessions, or 0 */
 static unsigned long grants, resumes, ends, starts, victims;
@@ -118,7 +130,77 @@ static void apply_next(struct node *node) {
     free(left.all);
 }
 
-/* Starts a node, from what was kept up to some end of it or from nothing. */
+static struct beat *beat_of(uint64_t session) {
+    for (size_t at = 0; at < beat_count; at++)
+        if (beats[at].session == session)
+            return &beats[at];
+    if (beat_count == MOST_SESSIONS)
+        fail("too many sessions");
+    beats[beat_count] = (struct beat){.session = session};
+    return &beats[beat_count++];
+}
+
+static void note_sessions(size_t at, struct entry *entry) {
+    for (reader_number(&entry->payload, 8); entry->payload.left >= 8;) {
+        struct beat *beat = beat_of(reader_number(&entry->payload, 8));
+        if (beat->has_ended)
+            continue;
+        beat->batch = at;
+        beat->number = entry->number;
+    }
+}
+
+/* Notes the last beat of each session in what was kept of a batch. */
+static void note_beats(size_t at) {
+    struct reader reader = {kept.all[at].batch.all, kept.all[at].batch.len, false};
+    struct entry entry;
+    batch_open(&reader);
+    while (batch_next(&reader, &entry)) {
+        if (entry.type == ENTRY_BEAT)
+            note_sessions(at, &entry);
+        else if (entry.type == ENTRY_END)
+            beat_of(reader_number(&entry.payload, 8))->has_ended = true;
+    }
+}
+
+/* Adds an entry as a chunk has it: a beat only with the sessions of which it is the last one. */
+static void add_entry(struct bytes *to, size_t at, struct entry *entry) {
+    struct bytes sessions = {NULL, 0, 0};
+    if (entry->type != ENTRY_BEAT) {
+        bytes_add(to, entry->head, entry->len);
+        return;
+    }
+    for (reader_number(&entry->payload, 8); entry->payload.left >= 8;) {
+        uint64_t session = reader_number(&entry->payload, 8);
+        const struct beat *beat = beat_of(session);
+        if (beat->batch == at && beat->number == entry->number)
+            bytes_add_number(&sessions, session, 8);
+    }
+    if (sessions.len == 0)
+        return;
+    bytes_add_number(to, entry->number, 4);
+    bytes_add_number(to, ENTRY_BEAT, 2);
+    bytes_add_number(to, 8 + sessions.len, 2);
+    bytes_add_number(to, 0, 8);
+    bytes_add(to, sessions.all, sessions.len);
+    free(sessions.all);
+}
+
+/* Runs a batch of a chunk. */
+static void apply_kept(struct node *node, size_t at) {
+    const struct placed *placed = &kept.all[at];
+    struct reader reader = {placed->batch.all, placed->batch.len, false};
+    struct bytes batch = {NULL, 0, 0};
+    struct entry entry;
+    batch_open(&reader);
+    bytes_add(&batch, placed->batch.all, BATCH_HEAD);
+    while (batch_next(&reader, &entry))
+        add_entry(&batch, at, &entry);
+    replica_apply(node->replica, placed->revision, &batch, NULL);
+    free(batch.all);
+}
+
+/* Starts a node, from a chunk of what was kept up to some end or from nothing. */
 static void start(struct node *node) {
     static const struct limits limits = USUAL_LIMITS;
     static const uint8_t keys[16];
@@ -126,9 +208,13 @@ static void start(struct node *node) {
     node->replica = replica_open(node->dispatcher, (uint64_t)pick(UINT32_MAX) << 32 | ++starts);
     replica_tick(node->replica, now);
     size_t end = kept.count == 0 || pick(3) == 0 ? 0 : pick((uint32_t)kept.count);
+    beat_count = 0;
     for (size_t at = 0; at < end; at++)
         if (kept.all[at].batch.len != 0)
-            replica_apply(node->replica, kept.all[at].revision, &kept.all[at].batch, NULL);
+            note_beats(at);
+    for (size_t at = 0; at < end; at++)
+        if (kept.all[at].batch.len != 0)
+            apply_kept(node, at);
     node->at = end;
     while (node->at < list.count)
         apply_next(node);
@@ -230,8 +316,31 @@ static void go(struct node *node) {
         apply_next(node);
 }
 
+/* Has an administrator kill the session of a client, or of none. */
+static void kill_session_of(struct node *node, const struct client *client) {
+    static const struct rights rights = {.is_admin = true, .group = 1};
+    char text[LINE];
+    int len = snprintf(text, sizeof text, "kill %s\n", client->session);
+    if (node->admin == NULL)
+        node->admin = link_open(node->replica, &rights, pick(UINT32_MAX), node);
+    link_hear(node->admin, (const uint8_t *)text, (size_t)len);
+}
+
+/* An administrator reads what it was answered. */
+static void read_as_admin(struct node *node) {
+    size_t len;
+    if (node->admin == NULL || link_client(node->admin) == NULL)
+        return;
+    client_output(link_client(node->admin), &len);
+    client_sent(link_client(node->admin), len);
+    link_go(node->admin);
+}
+
 static void move_node(struct node *node) {
     go(node);
+    read_as_admin(node);
+    if (pick(1500) == 0)
+        kill_session_of(node, &clients[pick(CLIENTS)]);
     if (pick(4000) == 0)
         node->stopped = now + pick(12000);
     if (pick(4000) == 0)
@@ -337,7 +446,8 @@ static void hear_line(struct client *client, const char *text) {
     unsigned block, status;
     if (strncmp(text, "vlm protocol", 12) == 0)
         return;
-    if (strncmp(text, "session ended", 13) == 0 || strncmp(text, "session moved", 13) == 0) {
+    if (strncmp(text, "session ended", 13) == 0 || strncmp(text, "session moved", 13) == 0
+        || strncmp(text, "session killed", 14) == 0) {
         forget_session(client);
     } else if (sscanf(text, "session %31s seconds", client->session) == 1) {
         if (client->asked + lease > client->lease)
@@ -622,6 +732,47 @@ static void run_many_readings(void) {
     end();
 }
 
+/* How many bytes a client of a dispatcher was told. */
+static size_t told_to(struct client *client) {
+    size_t len;
+    client_output(client, &len);
+    client_sent(client, len);
+    return len;
+}
+
+/* Two clients have lines that pass over all locks. A turn runs as many as it may, and then the other client comes. */
+static void run_costly_lines(void) {
+    enum { LOCKS = 6000, LINES = 20 };
+    static const struct limits limits = USUAL_LIMITS;
+    static const struct rights rights = {.group = 1};
+    static const uint8_t keys[16];
+    struct dispatcher *dispatcher = dispatcher_open(&limits, 0, keys, say_nothing);
+    struct client *readers[] = {client_open(dispatcher, &rights, 0, dispatcher),
+                                client_open(dispatcher, &rights, 0, dispatcher)};
+    client_run(readers[0], "open", 4);
+    client_run(readers[0], "declare P quota=6000", 20);
+    for (uint32_t lock = 0; lock < LOCKS; lock++) {
+        char line[LINE];
+        client_run(readers[0], line, (size_t)snprintf(line, sizeof line, "enq P NL name=A%u block=1", lock));
+        told_to(readers[0]);
+    }
+    told_to(readers[1]);
+    size_t told[2] = {0, 0};
+    for (uint32_t line = 0; line < LINES; line++)
+        for (uint32_t at = 0; at < 2; at++)
+            client_hear(readers[at], (const uint8_t *)"who none\n", 9);
+    for (uint32_t turn = 1; turn <= LINES; turn++) {
+        for (uint32_t at = 0; at < 2; at++)
+            told[at] += told_to(readers[at]);
+        if (told[0] + told[1] > 2 * turn || (turn > 2 && (told[0] == 0 || told[1] == 0)))
+            fail("costly lines take too long a turn, or one client has all turns");
+        dispatcher_run(dispatcher);
+    }
+    if (told[0] + told[1] + told_to(readers[0]) + told_to(readers[1]) != 2 * LINES)
+        fail("costly lines are not run");
+    dispatcher_close(dispatcher);
+}
+
 /* All processes of the lock manager are made. A declaration more is refused, and no replica takes that for a want of
  * memory. */
 static void run_all_processes(void) {
@@ -787,6 +938,7 @@ int main(int count, char **words) {
     run_leaving();
     run_next_lines();
     run_many_readings();
+    run_costly_lines();
     run_all_processes();
     run_raised_limit();
     run_end_of_epoch();
