@@ -9,7 +9,7 @@
 #include <string.h>
 #include <sys/socket.h>
 
-enum { LINE = 512, WORDS = 3, MOST_GIDS = 4096, FEWEST_IDS = 100, MOST_CHUNK = 1 << 20 };
+enum { LINE = 4096, WORDS = 3, MOST_GIDS = 4096, FEWEST_IDS = 100, MOST_CHUNK = 1 << 20 };
 
 static bool number_of(const char *word, unsigned long most, uint32_t *number) {
     char *end;

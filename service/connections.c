@@ -195,13 +195,15 @@ static bool find_rights(const struct listener *listener, int descriptor, struct 
 }
 
 bool let_in(struct connection *connection, const struct rights *rights) {
+    /* (no session of an earlier daemon, or of another replica, has the name of one of this connection) */
+    bool has_salt = vlmd.replica != NULL || dispatcher_epoch(vlmd.dispatcher) != 0;
     uint32_t salt = 0;
+    if (has_salt && getrandom(&salt, sizeof salt, 0) != sizeof salt)
+        return false;
     if (vlmd.replica == NULL) {
-        connection->client = client_open(vlmd.dispatcher, rights, 0, connection);
+        connection->client = client_open(vlmd.dispatcher, rights, salt, connection);
         return connection->client != NULL;
     }
-    if (getrandom(&salt, sizeof salt, 0) != sizeof salt)
-        return false;
     connection->link = link_open(vlmd.replica, rights, salt, connection);
     if (connection->link != NULL)
         wait_for(connection, 0);

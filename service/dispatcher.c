@@ -111,17 +111,27 @@ void make_ready(struct client *client) {
     client->dispatcher->ready_end = &client->next_ready;
 }
 
+bool dispatcher_is_spent(const struct dispatcher *dispatcher) { return dispatcher->walked >= MOST_WALKED; }
+
 void dispatcher_run(struct dispatcher *dispatcher) {
-    struct client *client = dispatcher->ready;
+    struct client *client = dispatcher->ready, **end = dispatcher->ready_end;
     dispatcher->ready = NULL;
     dispatcher->ready_end = &dispatcher->ready;
-    for (struct client *next; client != NULL; client = next) {
+    dispatcher->walked = 0;
+    for (struct client *next; client != NULL && !dispatcher_is_spent(dispatcher); client = next) {
         next = client->next_ready;
         client->is_ready = false;
         run_heard(client);
         /* (it may be heard again, also if nothing was answered) */
         note_change(client);
     }
+    if (client == NULL)
+        return;
+    /* Those that had no turn come before those that have lines left. */
+    *end = dispatcher->ready;
+    if (dispatcher->ready == NULL)
+        dispatcher->ready_end = end;
+    dispatcher->ready = client;
 }
 
 bool dispatcher_is_busy(const struct dispatcher *dispatcher) { return dispatcher->ready != NULL; }

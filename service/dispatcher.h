@@ -66,6 +66,9 @@ uint64_t dispatcher_due(const struct dispatcher *dispatcher);
 /* Runs lines that were heard and not run yet. */
 void dispatcher_run(struct dispatcher *dispatcher);
 
+/* Whether the lines of this turn have read so many locks that those that are left wait for the next turn. */
+bool dispatcher_is_spent(const struct dispatcher *dispatcher);
+
 /* Whether such lines are left. Sent output may let more lines run. */
 bool dispatcher_is_busy(const struct dispatcher *dispatcher);
 

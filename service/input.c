@@ -42,7 +42,10 @@ static bool may_run(const struct client *client) {
 /* Runs whole lines, as many as a turn allows, and returns how many bytes they had. */
 static size_t run_lines(struct client *client, const uint8_t *bytes, size_t len) {
     size_t done = 0;
-    for (uint32_t lines = 0; lines < client->dispatcher->limits.lines && may_run(client); lines++) {
+    const struct dispatcher *dispatcher = client->dispatcher;
+    for (uint32_t lines = 0; lines < dispatcher->limits.lines && may_run(client); lines++) {
+        if (dispatcher_is_spent(dispatcher))
+            break;
         const uint8_t *end = len > done ? memchr(bytes + done, '\n', len - done) : NULL;
         if (end == NULL)
             return done;

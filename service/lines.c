@@ -116,7 +116,7 @@ static bool as_declaration(const struct client *client, const struct word *words
         int shown = (int)(words[at].len < CUT_WORD ? words[at].len : CUT_WORD);
         len += snprintf(text + len, sizeof text - (size_t)len, "%.*s ", shown, words[at].bytes);
     }
-    if (is_refused || memchr(text, 0, (size_t)len) != NULL) {
+    if (is_refused || memchr(client->line, 0, client->line_len) != NULL) {
         line->kind = VLM_LINE_EMPTY;
         line->fault = VLM_FAULT_WRONG_WORD;
         return true;

@@ -114,13 +114,13 @@ static bool is_kept(struct link *link) {
     return true;
 }
 
-/* Whether a line more may run here in this turn. If not, the client has another turn. */
+/* Whether a line more may run here in this turn: each client has one at least. If not, it has another turn. */
 static bool has_turn(struct link *link) {
     if (link->turn != link->replica->turns) {
         link->turn = link->replica->turns;
         link->readings = 0;
     }
-    if (link->readings == MOST_READINGS) {
+    if (link->readings == MOST_READINGS || (link->readings != 0 && dispatcher_is_spent(link->replica->dispatcher))) {
         client_call(link->client);
         return false;
     }

@@ -37,6 +37,7 @@ static uint64_t walk_rows(const struct reading *reading, uint32_t status, vlm_lo
     uint64_t count = 0;
     for (; status == VLM_NORMAL && lock->lkid != 0; status = next(reading->manager, lock->lkid, lock)) {
         count++;
+        reading->client->dispatcher->walked++;
         if (is_told)
             tell_row(reading->client, lock);
     }
@@ -57,9 +58,11 @@ static bool may_see(const struct client *client, const vlm_resource *resource) {
 static void tell_all(struct reading *reading) {
     vlm_resource *resource = &reading->resource;
     uint32_t status = vlm_next_resource(reading->manager, resource);
-    for (; status == VLM_NORMAL && resource->serial != 0; status = vlm_next_resource(reading->manager, resource))
+    for (; status == VLM_NORMAL && resource->serial != 0; status = vlm_next_resource(reading->manager, resource)) {
+        reading->client->dispatcher->walked++;
         for (uint32_t queue = 0; queue < QUEUES && may_see(reading->client, resource); queue++)
             queue_rows(reading, queue, true);
+    }
 }
 
 /* `lock L`: its row, its resource as `show` and `tails` print it, its parent lock and counts. */
@@ -92,8 +95,10 @@ static void tell_side(const struct reading *reading, walk_step first,
                       uint32_t (*next)(vlm *manager, uint32_t lkid, uint32_t after, vlm_lock *lock)) {
     vlm_lock lock = {.size = sizeof lock};
     uint32_t status = first(reading->manager, reading->lkid, &lock);
-    for (; status == VLM_NORMAL && lock.lkid != 0; status = next(reading->manager, reading->lkid, lock.lkid, &lock))
+    for (; status == VLM_NORMAL && lock.lkid != 0; status = next(reading->manager, reading->lkid, lock.lkid, &lock)) {
+        reading->client->dispatcher->walked++;
         tell_row(reading->client, &lock);
+    }
 }
 
 /* `blockers L`: the locks that its request waits for. */
@@ -107,8 +112,10 @@ static void tell_below(struct reading *reading) {
     vlm_resource resource = {.size = sizeof resource};
     uint64_t count = 0;
     uint32_t status = vlm_next_resource(reading->manager, &resource);
-    for (; status == VLM_NORMAL && resource.serial != 0; status = vlm_next_resource(reading->manager, &resource))
+    for (; status == VLM_NORMAL && resource.serial != 0; status = vlm_next_resource(reading->manager, &resource)) {
+        reading->client->dispatcher->walked++;
         count += resource.parent == reading->resource.serial;
+    }
     put_format(reading->client, "below %" PRIu64 "\n", count);
 }
 
@@ -154,9 +161,9 @@ static void run_reading_of(struct client *client, size_t place, const struct wor
     } else if (names_lock && !find(&reading, handle)) {
         answer_text(client, "no such lock\n\n");
     } else {
-        begin_answer(client);
+        begin_long_answer(client);
         readings[place].tell(&reading);
-        put_text(client, "\n");
+        end_long_answer(client, "\n");
     }
 }
 

@@ -39,6 +39,8 @@ static void cut_off(struct client *client, const char *reason) {
         client->rights.uid, reason);
 }
 
+static size_t unsent(const struct client *client) { return client->out_len - client->out_from; }
+
 static bool make_room(struct client *client, size_t len) {
     if (client->out_len + len <= client->out_room)
         return true;
@@ -57,7 +59,7 @@ void put(struct client *client, const void *bytes, size_t len) {
     note_change(client);
     if (client->is_cut || client->is_detached || len == 0)
         return;
-    if (client->out_len - client->out_from + len > MOST_UNSENT) {
+    if (!client->is_told_at_length && unsent(client) + len > MOST_UNSENT + client->out_long) {
         cut_off(client, "it does not read");
     } else if (client->user->queued + len > client->dispatcher->limits.queued) {
         cut_off(client, "too many bytes wait for its user");
@@ -103,6 +105,18 @@ void begin_answer(struct client *client) {
     put(client, text + DIGITS - count, count + 1);
 }
 
+/* An answer with a line for each lock may be longer than what a client that does not read may leave unsent. */
+void begin_long_answer(struct client *client) {
+    begin_answer(client);
+    client->is_told_at_length = true;
+}
+
+void end_long_answer(struct client *client, const char *text) {
+    put_text(client, text);
+    client->is_told_at_length = false;
+    client->out_long = unsent(client);
+}
+
 void answer(struct client *client, const void *bytes, size_t len) {
     begin_answer(client);
     put(client, bytes, len);
@@ -131,14 +145,16 @@ void replace_word(vlm_text *text, uint32_t place, uint64_t number) {
 }
 
 const uint8_t *client_output(const struct client *client, size_t *len) {
-    *len = client->is_cut ? 0 : client->out_len - client->out_from;
+    *len = client->is_cut ? 0 : unsent(client);
     return client->out == NULL ? NULL : client->out + client->out_from;
 }
 
 void client_sent(struct client *client, size_t len) {
-    bool was_paused = client->out_len - client->out_from > PAUSE;
+    bool was_paused = unsent(client) > PAUSE;
     client->out_from += len;
     client->user->queued -= len;
+    if (client->out_long > unsent(client))
+        client->out_long = unsent(client);
     if (client->out_from == client->out_len) {
         client->out_from = client->out_len = 0;
         if (client->out_room > KEPT_ROOM) {
@@ -151,6 +167,6 @@ void client_sent(struct client *client, size_t len) {
         memmove(client->out, client->out + client->out_from, client->out_len);
         client->out_from = 0;
     }
-    if (was_paused && client->out_len - client->out_from <= PAUSE)
+    if (was_paused && unsent(client) <= PAUSE)
         make_ready(client);
 }

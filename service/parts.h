@@ -34,8 +34,9 @@ enum {
     NUMBERED = LINE + 20, /* with its number; more bytes are too long in any case */
     PAUSE = 64 << 10,     /* unsent bytes of a client whose lines are not run */
     MOST_UNSENT = 1 << 20,
-    KEPT_ASTS = 64,  /* of a session that may be resumed */
-    KEPT_STEPS = 64, /* likewise, if its lines have numbers */
+    MOST_WALKED = 10000, /* locks and resources in a turn, before all lines that are left wait for the next one */
+    KEPT_ASTS = 64,      /* of a session that may be resumed */
+    KEPT_STEPS = 64,     /* likewise, if its lines have numbers */
     MOST_SECONDS = 600,
     BLOCK_BITS = 256 / 8,
     USER_BUCKETS = 256,
@@ -147,6 +148,8 @@ struct client {
     size_t in_from, in_len, in_room;
     uint8_t *out;
     size_t out_from, out_len, out_room;
+    size_t out_long;        /* unsent bytes that are allowed beside MOST_UNSENT: a long answer is among them */
+    bool is_told_at_length; /* an answer that `shown` alone limits */
     /* The line that is run. */
     const char *line; /* without its number */
     size_t line_len;
@@ -203,6 +206,7 @@ struct dispatcher {
     uint32_t last_lkid;
     uint32_t short_of, out_of; /* IDs: from these on they are short, and no more are given */
     uint64_t last_process;     /* number */
+    uint64_t walked;           /* locks and resources that lines of this turn have told or passed over */
     uint32_t connections;
     struct client *clients, *ready, **ready_end, *changed;
     struct place *sessions;
@@ -324,6 +328,8 @@ void put_format(struct client *client, const char *format, ...) __attribute__((f
 void answer(struct client *client, const void *bytes, size_t len);
 void answer_text(struct client *client, const char *text);
 void begin_answer(struct client *client);
+void begin_long_answer(struct client *client);
+void end_long_answer(struct client *client, const char *text);
 void replace_word(vlm_text *text, uint32_t place, uint64_t number);
 void say(const struct dispatcher *dispatcher, const char *format, ...) __attribute__((format(printf, 2, 3)));
 

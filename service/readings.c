@@ -47,6 +47,7 @@ static void show_queue(struct client *client, const vlm_resource *resource, uint
     vlm_text text = {.size = sizeof text};
     uint32_t status = vlm_first_row(&dispatcher->manager, resource, queue, &lock);
     for (; status == VLM_NORMAL && lock.lkid != 0; status = vlm_next_row(&dispatcher->manager, lock.lkid, &lock)) {
+        dispatcher->walked++;
         vlm_print_lock(&lock, &text);
         replace_word(&text, ROW_PROCESS_WORD, process_of(dispatcher, lock.pid)->number);
         replace_word(&text, ROW_LOCK_WORD, handle_of(dispatcher, lock.lkid));
@@ -74,13 +75,14 @@ void show(struct client *client, bool is_tails) {
         answer_text(client, "too many locks\n\n");
         return;
     }
-    begin_answer(client);
+    begin_long_answer(client);
     uint32_t status = vlm_next_resource(&dispatcher->manager, &resource);
     for (; status == VLM_NORMAL && resource.serial != 0; status = vlm_next_resource(&dispatcher->manager, &resource)) {
+        dispatcher->walked++;
         if (!may_see(client, &resource))
             continue;
         is_empty = false;
         show_resource(client, &resource, is_tails);
     }
-    put_text(client, is_empty ? "no resources\n\n" : "\n");
+    end_long_answer(client, is_empty ? "no resources\n\n" : "\n");
 }

@@ -105,7 +105,8 @@ static void tell_session(struct session *session, const char *text, size_t len) 
         keep_ast(session, text, len);
     session->asts++;
     session->dispatcher->counts.asts++;
-    if (session->client != NULL)
+    /* (`lost` is the last line of a client) */
+    if (session->client != NULL && !session->client->is_over)
         put(session->client, text, len);
 }
 

@@ -88,6 +88,8 @@ static void run_open(struct client *client, const struct word *words, size_t cou
         answer_text(client, "number out of range\n");
     } else if (client->session != NULL) {
         answer_text(client, "session open\n");
+    } else if (client->user->sessions >= client->dispatcher->limits.connections) {
+        answer_text(client, "too many sessions\n");
     } else if ((client->session = new_session(client, (uint32_t)seconds)) == NULL) {
         end_without_memory(client->dispatcher);
         answer_text(client, "no memory\n");
@@ -143,6 +145,7 @@ static void move(struct client *client, struct session *session) {
         unlink_left(session);
     }
     session->client = client;
+    session->rights.pid = client->rights.pid;
     client->session = session;
     keep_lease(session);
     tell_session(client);

@@ -284,6 +284,13 @@ static bool set_named(const char *setting, char *text) {
     return text == NULL || set_words(&vlmd.config, (char *[]){word, text}, 2);
 }
 
+static bool set_socket(const char *path) {
+    bool fits = snprintf(vlmd.config.socket, PATH, "%s", path) < PATH;
+    if (!fits)
+        write_log("the path of the socket has more than 107 bytes");
+    return fits;
+}
+
 static bool read_words(int count, char **words) {
     struct named_words named = {.socket = getenv("VLM_SOCKET")};
     /* (clients may have the address of a replica there) */
@@ -294,8 +301,9 @@ static bool read_words(int count, char **words) {
     if (!is_right || !read_config(vlmd.file, vlmd.is_file_named, &vlmd.config))
         return false;
     if (named.socket != NULL || vlmd.config.socket[0] == 0)
-        snprintf(vlmd.config.socket, PATH, "%s", named.socket != NULL ? named.socket : usual_socket);
-    is_right = set_named("etcd", named.etcd) && set_named("prefix", named.prefix) && set_named("listen", named.listen);
+        is_right = set_socket(named.socket != NULL ? named.socket : usual_socket);
+    is_right = is_right && set_named("etcd", named.etcd) && set_named("prefix", named.prefix)
+               && set_named("listen", named.listen);
     return is_right && (vlmd.config.etcd[0] != 0 || vlmd.config.listen[0] == 0);
 }
 

@@ -72,6 +72,7 @@ static void tell_resource(struct walk *walk) {
         uint32_t status = vlm_first_row(manager, walk->resource, queue, &lock);
         for (; status == VLM_NORMAL && lock.lkid != 0; status = vlm_next_row(manager, lock.lkid, &lock)) {
             walk->rows++;
+            walk->client->dispatcher->walked++;
             tell_lock(walk, &lock);
         }
     }
@@ -91,15 +92,16 @@ void who(struct client *client, const struct word *words, size_t count) {
     }
     vlm_resource resource = {.size = sizeof resource};
     struct walk walk = {.client = client, .resource = &resource};
-    begin_answer(client);
+    begin_long_answer(client);
     uint32_t status = vlm_next_resource(&dispatcher->manager, &resource);
     for (; status == VLM_NORMAL && resource.serial != 0; status = vlm_next_resource(&dispatcher->manager, &resource)) {
         bool is_seen = client->rights.is_admin || resource.is_system != 0 || resource.group == client->rights.group;
+        dispatcher->walked++;
         take_name(&walk);
         if (is_seen && (count == 1 || is_word(words[1], walk.name)))
             tell_resource(&walk);
     }
-    put_text(client, "\n");
+    end_long_answer(client, "\n");
 }
 
 /* `metrics`: counters in the text format of Prometheus, and a blank line. */

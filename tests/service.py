@@ -68,7 +68,7 @@ TALKS = {
         ("declare P quota=9 blocks=4 node=1 group=1", "wrong word"), ("block P 1", "unknown name"),
         ("declare P", ...), ("ast P", "unknown command"), ("frob", "unknown command"), ("alive now", "wrong word"),
         ("declare P", "name used"), ("declare Q quota=65536", "number out of range"), ("kill", "wrong word"),
-        ("declare Q blocks", "wrong word"), ("declare 1", "wrong word"), ("kill 0000000000000000", "no such session")],
+        ("declare Q blocks", "wrong word"), ("declare Q\0x", "wrong word"), ("declare 1", "wrong word"), ("kill 0000000000000000", "no such session")],
     "numbers": [("open", ...), ("1 declare P", "1 P: process 65537"), ("1 declare P", "1 P: process 65537"),
                 ("2 enq P EX name=A block=1", "2 P: NORMAL lock 1"),
                 ("2 enq P EX name=A block=1", "2 P: NORMAL lock 1"),
@@ -250,7 +250,7 @@ def cut_off(_program):
 
 def limits(_program):
     """What is wrong at the edges of the limits of a user."""
-    with Daemon("connections 4", "processes 3", "locks 3", "waiting 1", "names 4") as daemon:
+    with Daemon("# " + 600 * "x", "connections 4", "processes 3", "locks 3", "waiting 1", "names 4") as daemon:
         with daemon.client().begin("P", "Q") as one, daemon.client().begin("P") as other:
             yield from difference(one.ask("declare R"), "too many processes")
             for name in "ABC":
@@ -270,6 +270,10 @@ def limits(_program):
             yield from difference(one.ask("declare T"), "too many names")
             with daemon.client(), daemon.client(), daemon.client() as fifth:
                 yield from difference((fifth.line(), fifth.line()), ("too many connections", None))
+    with Daemon("connections 2") as daemon:
+        for wanted in ("session", "session", "too"):
+            with daemon.client() as client:
+                yield from difference(client.ask("open seconds=60").split()[0], wanted)
 
 
 def shown(_program):
@@ -285,6 +289,11 @@ def shown(_program):
         client.ask("enq P PR name=B block=2")
         for line in ("who", "show", "tails"):
             yield from difference(client.ask_all(line), ["too many locks"])
+    with Daemon() as daemon, daemon.client().begin("P quota=9000") as client:
+        for number in range(8000):
+            client.ask(f"enq P NL name=x:ff{number:056x}00 block=1")
+        # (it is longer than what a client that does not read may leave unsent)
+        yield from difference(len(client.ask_all("who")), 8000)
 
 
 # Rows of the locks that `readings` makes: all are of this process.
@@ -451,6 +460,10 @@ def restarted(_program):
             if time.monotonic() - began < 0.5 or answer != "P: NORMAL lock 4294967297":
                 yield f"{answer} after {time.monotonic() - began:.2f} seconds"
             yield from difference(client.ask("block P 1"), f"P: block 1 status 1 lock 4294967297 value {ZEROS}")
+            with second.client() as other, second.client() as late:
+                other.ask("open seconds=60")
+                # (a client of the first daemon had a session of the name that this one would have)
+                yield from difference(late.ask("resume 0000000200000001"), "session ended")
             second.run.send_signal(signal.SIGTERM)
             yield from difference((client.line(), client.line(), second.run.wait(20)), ("lost", None, 0))
         with Daemon("grace 3000", folder=first.folder) as third:
@@ -478,7 +491,7 @@ def configured(_program):
     holds up nobody."""
     replica = ["-s", f"{ROOM().name}/replica", "--etcd", "127.0.0.1:1"]
     for words, status in ((["-x"], 2), (["-c", "/nowhere"], 2), (["here"], 2), (["-s", "/nowhere/to/socket"], 4),
-                          (["--listen", "127.0.0.1:0"], 2), (["--etcd", 300 * "x"], 2),
+                          (["-s", 120 * "x"], 2), (["--listen", "127.0.0.1:0"], 2), (["--etcd", 300 * "x"], 2),
                           ([*replica, "--listen", "127.0.0.1"], 4), ([*replica, "--listen", "0.0.0.0:0"], 4)):
         ended = subprocess.run([PLAIN(), *words], capture_output=True, text=True, timeout=20)
         yield from difference((words, ended.returncode), (words, status))
@@ -614,7 +627,10 @@ def drained(_program):
     with Daemon("identifications 100", "drain 2500") as daemon, daemon.client().begin("P") as client:
         other = daemon.client().begin("Q")
         other.ask("enq Q NL name=B block=1")
-        for _ in range(98):
+        client.ask("enq P EX name=C block=2")
+        # (the end of one client grants it to the other, after that was told of its own end)
+        other.ask("enq Q EX name=C block=2 ast=1")
+        for _ in range(96):
             client.ask("enq P EX name=A block=1")
             client.ask("deq P @1")
         yield from difference(client.ask("enq P EX name=A block=1"), "no identifications left")

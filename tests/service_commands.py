@@ -10,6 +10,7 @@ import subprocess
 import tempfile
 import time
 from argparse import Namespace
+from functools import partial
 from pathlib import Path
 
 import library
@@ -95,6 +96,13 @@ def statuses(_program):
         holder.terminate()
         yield from difference(holder.wait(20), 143)
         yield from difference(holds(daemon, 0), True)
+        # (its parent may have ignored the ends of children)
+        ignoring = partial(signal.signal, signal.SIGCHLD, signal.SIG_IGN)
+        yield from difference(start(daemon, "lock", "A", "sh", "-c", "exit 7", preexec_fn=ignoring).wait(20), 7)
+    with Daemon("locks 1") as daemon, daemon.client().begin("P") as client:
+        client.ask("enq P EX name=A block=1")
+        # (its refusal and its time-out meet)
+        yield from difference(run(daemon, "lock", "-w", "0", "B", "true"), (69, "vlm lock: P: EXENQLM\n"))
     yield from difference(run(daemon, "lock", "A", "true")[0], 69)
 
 

@@ -115,6 +115,7 @@ struct record {
     uint32_t parent;    /* of a lock: its parent lock, or 0 */
     uint32_t converted; /* of a lock: the record of its conversion, of whose end nothing was heard, or NO_RECORD */
     bool is_used, is_granted;
+    bool is_going;     /* by a dequeue of many */
     bool is_sent;      /* its line; before, only the call that made the record frees it */
     struct call *call; /* waits for the end, or null */
     vlm_threads_routine completion, blocking;

@@ -343,16 +343,26 @@ static bool is_valid_dequeue(const vlm_threads_dequeue *dequeue) {
     return dequeue->size == sizeof *dequeue && dequeue->flags <= MOST_BITS && dequeue->wide <= 1;
 }
 
-/* Forgets the granted locks of a process below a lock, or all of them. Trees have at most 16 levels. */
+/* Whether a granted lock is below another one of its process, or that is 0. Trees have at most 16 levels. */
+static bool is_below(const vlm_client *client, const struct record *record, uint32_t lock) {
+    uint32_t above = record->parent;
+    while (lock != 0 && above != 0 && above != lock) {
+        uint32_t place = vlmc_find_lock(client, record->pid, above);
+        above = place != NO_RECORD ? client->records[place].parent : 0;
+    }
+    return above == lock || lock == 0;
+}
+
+/* Forgets the granted locks of a process below a lock, or all of them. All are found before one of them goes. */
 static void forget_below(vlm_client *client, uint32_t pid, uint32_t lock) {
     for (uint32_t place = 0; place < client->record_room; place++) {
-        const struct record *record = &client->records[place];
-        if (!record->is_used || record->pid != pid || !record->is_granted || (lock != 0 && record->parent != lock))
-            continue;
-        if (lock != 0)
-            forget_below(client, pid, record->lkid);
-        vlmc_free_record(client, place);
+        struct record *record = &client->records[place];
+        record->is_going =
+            record->is_used && record->pid == pid && record->is_granted && is_below(client, record, lock);
     }
+    for (uint32_t place = 0; place < client->record_room; place++)
+        if (client->records[place].is_going)
+            vlmc_free_record(client, place);
 }
 
 void vlmc_forget(vlm_client *client, const vlm_threads_dequeue *dequeue) {

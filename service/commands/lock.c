@@ -150,7 +150,7 @@ static bool hear(struct holding *holding, const struct wanted *wanted, pid_t chi
 
 /* Waits until the command ends. */
 static int oversee(struct holding *holding, const struct wanted *wanted, pid_t child, int signals) {
-    int status;
+    int status = 0;
     struct pollfd ready[] = {{.fd = signals, .events = POLLIN}, {.fd = holding->descriptor, .events = POLLIN}};
     /* (something may have come with the grant) */
     holding->is_lost = !hear(holding, wanted, child);
@@ -171,6 +171,8 @@ static int run_command(struct holding *holding, const struct wanted *wanted) {
     const int numbers[] = {SIGCHLD, SIGTERM, SIGHUP, SIGINT, SIGQUIT};
     for (size_t at = 0; at < sizeof numbers / sizeof *numbers; at++)
         sigaddset(&taken, numbers[at]);
+    /* (a parent may have had it ignored: then nobody is told that the command has ended) */
+    signal(SIGCHLD, SIG_DFL);
     sigprocmask(SIG_BLOCK, &taken, &before);
     int signals = signalfd(-1, &taken, SFD_CLOEXEC | SFD_NONBLOCK);
     pid_t child = signals < 0 ? -1 : start(holding, wanted->command, &before);

@@ -80,8 +80,12 @@ static int cancel(struct holding *holding) {
             return CONFLICT;
         if (strcmp(line, "P: CANCELGRANT") == 0)
             return found;
-        if (outcome(holding, line) == GRANTED)
+        int told = outcome(holding, line);
+        if (told == GRANTED)
             found = GRANTED;
+        else if (told >= 0)
+            /* (it was refused, or has ended: there is nothing to cancel) */
+            return told;
     }
     return GONE;
 }

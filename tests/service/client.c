@@ -845,6 +845,11 @@ static void test_readings(void) {
     CHECK(vlm_client_read(client, "lock", held.lkid, &text) == VLM_NORMAL && strstr(text, row) != NULL);
     CHECK(strstr(text, "\nresource ") != NULL && strstr(text, "\nparent 0 sublocks 0 granted 1 ") != NULL);
     free(text);
+    /* (`lost N` is a line that clients get, too) */
+    CHECK(enq(client, &other, "lost") == VLM_NORMAL && vlm_client_read(client, "who", 0, &text) == VLM_NORMAL);
+    CHECK(strncmp(text, "lost ", 5) == 0 || strstr(text, "\nlost ") != NULL);
+    CHECK(deq(client, pid, other.lkid, 0) == VLM_NORMAL);
+    free(text);
     CHECK(is_read(client, "blocked", held.lkid, "") && is_read(client, "below", held.lkid, "below 0\n"));
     CHECK(is_read(client, "rows", 4000000000, "no such lock\n") && is_read(client, "frob", 0, "unknown command\n"));
     memset(long_word, 'x', sizeof long_word - 1);
