@@ -39,7 +39,7 @@ struct bytes replica_batch(struct replica *replica);
 void replica_appended(struct replica *replica);
 
 /* If there is something to be appended: how many lines of the last batch no other line of their clients has followed
- * yet. Clients that were answered often send the next line at once, and a batch with these lines too spares an append. */
+ * yet. Clients that were answered often send the next line at once, and a batch with these lines spares an append. */
 uint32_t replica_expected(const struct replica *replica);
 
 /* Runs a batch of the list. Revisions rise. `kept`, if it is not null, gets the batch without what did nothing: that

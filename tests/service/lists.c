@@ -764,11 +764,11 @@ static void run_costly_lines(void) {
     for (uint32_t turn = 1; turn <= LINES; turn++) {
         for (uint32_t at = 0; at < 2; at++)
             told[at] += told_to(readers[at]);
-        if (told[0] + told[1] > 2 * turn || (turn > 2 && (told[0] == 0 || told[1] == 0)))
+        if (told[0] + told[1] > (size_t)2 * turn || (turn > 2 && (told[0] == 0 || told[1] == 0)))
             fail("costly lines take too long a turn, or one client has all turns");
         dispatcher_run(dispatcher);
     }
-    if (told[0] + told[1] + told_to(readers[0]) + told_to(readers[1]) != 2 * LINES)
+    if (told[0] + told[1] + told_to(readers[0]) + told_to(readers[1]) != (size_t)2 * LINES)
         fail("costly lines are not run");
     dispatcher_close(dispatcher);
 }
