@@ -57,7 +57,7 @@ class Error : public std::runtime_error {
 /* How a request is made. */
 struct Terms {
     std::chrono::milliseconds wait{0}; /* the longest wait, or 0: no limit. A longer one than 49 days counts as that */
-    std::uint32_t flags = 0;           /* flags of vlm_enq. VLM_VALBLK: the lock's value is read, or written */
+    std::uint32_t flags = 0;           /* flags of vlm_enq but VLM_WIDE. VLM_VALBLK: the value is read, or written */
     Value value{};                     /* what a conversion to a lower mode writes, with VLM_VALBLK */
 };
 
@@ -114,7 +114,7 @@ struct Held {
 
 inline vlm_threads_request request_of(const Owner &owner, Mode mode, std::uint32_t lkid, const Terms &terms) {
     constexpr auto longest = std::numeric_limits<std::uint32_t>::max();
-    if (terms.wait.count() < 0)
+    if (terms.wait.count() < 0 || (terms.flags & VLM_WIDE) != 0) /* a Value has no tail */
         throw Error(VLM_BADPARAM);
     vlm_threads_request request{};
     request.size = sizeof request;
@@ -131,6 +131,9 @@ inline vlm_threads_request request_of(const Owner &owner, Mode mode, std::uint32
 /* A granted lock. It is given up when its object goes: later, if it has sublocks then. */
 class Lock {
   public:
+    Lock(Lock &&) noexcept = default;
+    Lock &operator=(Lock &&) noexcept = default;
+
     std::uint32_t id() const noexcept { return held_->lkid; }
     Mode mode() const noexcept { return held_->mode; }
 
@@ -163,9 +166,11 @@ class Lock {
     explicit Lock(std::shared_ptr<detail::Held> held) : held_(std::move(held)) {}
 
     void granted(Mode mode, const vlm_threads_request &request, const Value &value) {
+        bool is_writer = held_->mode >= Mode::pw, is_new = held_->lkid == 0;
+        bool is_known = is_new || is_writer || mode >= held_->mode; /* it was read or written */
         held_->lkid = request.lkid;
         held_->mode = mode;
-        if ((request.flags & VLM_VALBLK) != 0) {
+        if ((request.flags & VLM_VALBLK) != 0 && is_known) {
             held_->value = value;
             held_->has_value = request.status == VLM_NORMAL;
         }
@@ -179,7 +184,8 @@ class Process {
   public:
     Process(Process &&other) noexcept : owner_(std::exchange(other.owner_, {})) {}
     Process &operator=(Process &&other) noexcept {
-        std::swap(owner_, other.owner_);
+        Process gone(std::move(other));
+        std::swap(owner_, gone.owner_);
         return *this;
     }
     ~Process() {
@@ -233,6 +239,9 @@ class Process {
 /* A lock manager for the threads of this program. */
 class Manager {
   public:
+    Manager(Manager &&) noexcept = default;
+    Manager &operator=(Manager &&) noexcept = default;
+
     /* Opens one that searches for deadlocks at an interval, or with 0 never. Errors: INSFMEM, BADPARAM. */
     explicit Manager(std::chrono::milliseconds search = std::chrono::milliseconds(100)) : Manager(options_of(search)) {}
 

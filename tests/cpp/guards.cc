@@ -18,7 +18,8 @@ using std::chrono::milliseconds;
         }                                                                   \
     } while (false)
 
-static_assert(!std::is_copy_constructible_v<Process>);
+static_assert(!std::is_copy_constructible_v<Lock> && !std::is_copy_constructible_v<Process>);
+static_assert(!std::is_copy_constructible_v<Manager> && std::is_nothrow_move_constructible_v<Manager>);
 static_assert(std::is_nothrow_move_constructible_v<Lock> && std::is_nothrow_move_constructible_v<Process>);
 
 template <typename Call> static std::uint32_t thrown(Call call) {
@@ -86,6 +87,12 @@ static void a_value_goes_from_holder_to_holder() {
         lock.convert(Mode::pw, valued);
         lock.convert(Mode::nl, {milliseconds(0), VLM_VALBLK, Value{8}});
         HOLD(lock.mode() == Mode::nl && process.lock("A", Mode::pr, valued).value() == Value{8});
+        lock.convert(Mode::pr, valued);
+        lock.convert(Mode::cr, {milliseconds(0), VLM_VALBLK, Value{9}}); // (it neither reads nor writes)
+        HOLD(lock.value() == Value{8});
+        const Terms wide{milliseconds(0), VLM_VALBLK | VLM_WIDE};
+        HOLD(thrown([&] { process.lock("A", Mode::nl, wide); }) == VLM_BADPARAM);
+        HOLD(thrown([&] { lock.convert(Mode::nl, wide); }) == VLM_BADPARAM && lock.mode() == Mode::cr);
     }
     HOLD(locks_of(manager) == 0);
 }
@@ -101,6 +108,12 @@ static void an_ended_process_frees_its_locks() {
         vlm_threads_rundown(manager.get(), process.id());
         HOLD(locks_of(manager) == 0);
         HOLD(thrown([&] { lock.convert(Mode::nl); }) == VLM_NONEXPR);
+    }
+    {
+        Process ended = manager.declare(), kept = manager.declare();
+        Lock lock = ended.lock("A", Mode::ex);
+        ended = std::move(kept);
+        HOLD(locks_of(manager) == 0);
     }
     other.lock("A", Mode::ex);
     Declaration one;

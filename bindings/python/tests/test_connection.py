@@ -1,7 +1,10 @@
 """Connections to the lock service, over a vlmd of its own: the one in VLM_PREFIX/bin, or the one that VLMD names."""
 
+import gc
 import os
+import resource
 import shutil
+import signal
 import socket
 import subprocess
 import tempfile
@@ -9,11 +12,12 @@ import threading
 import time
 import unittest
 from concurrent.futures import ThreadPoolExecutor
+from contextlib import suppress
 from pathlib import Path
+from unittest import mock
 
 from vlm import (BadParamError, Condition, DeadlockError, DequeueFlags, Flags, IvLockIdError, LostError, Mode,
-                 NonExprError, NotQueuedError, SubLocksError,
-                 TimedOutError, connect)
+                 NonExprError, NotQueuedError, SubLocksError, TimedOutError, _client, connect)
 
 VLMD = os.environ.get("VLMD") or os.path.join(os.environ.get("VLM_PREFIX", ""), "bin", "vlmd")
 SECONDS = 30
@@ -128,9 +132,51 @@ class Connections(unittest.TestCase):
                 self.assertRaises(SubLocksError, p.deq, held.lock)
             self.assertRaises(ValueError, p.lock, "A", Mode.EX, -1)
             self.assertRaises(ValueError, held.write, bytes(17))
+            self.assertRaises(BadParamError, p.deq, held.lock, tail=b"x")
         self.assertRaises(BadParamError, self.connection().declare, requests=0)
         p.rundown()
         self.assertRaises(NonExprError, p.lock, "A", Mode.EX)
+
+    def test_a_release_that_is_refused_is_made_again(self):
+        p, q = self.pair()
+        held = p.lock("A", Mode.EX)
+        sublock = p.lock("B", Mode.NL, parent=held.lock)
+        self.assertRaises(SubLocksError, held.release)
+        sublock.release()
+        held.release()
+        q.lock("A", Mode.EX, flags=Flags.NOQUEUE).release()
+
+    def test_an_exception_in_a_with_block_stays_the_one(self):
+        p = self.connection().declare()
+        with self.assertRaises(KeyError), p.lock("A", Mode.EX) as held:
+            p.lock("B", Mode.NL, parent=held.lock)
+            raise KeyError
+
+    def interrupted(self, q, held, call, *arguments):
+        """Makes a call that waits for a lock of q, and interrupts it just before the lock is given up."""
+        def interrupt(_number, _frame):
+            raise KeyboardInterrupt
+
+        def end():
+            q.connection.wait(SECONDS)
+            os.kill(os.getpid(), signal.SIGALRM)
+            held.release()
+
+        self.addCleanup(signal.signal, signal.SIGALRM, signal.signal(signal.SIGALRM, interrupt))
+        with ThreadPoolExecutor(1) as pool:
+            pool.submit(end)
+            self.assertRaises(KeyboardInterrupt, call, *arguments)
+
+    def test_an_interrupted_wait_leaves_no_lock(self):
+        p, q = self.pair()
+        self.interrupted(q, q.lock("A", Mode.EX, blocking=print), p.lock, "A", Mode.EX, SECONDS)
+        q.lock("A", Mode.EX, flags=Flags.NOQUEUE).release()
+
+    def test_an_interrupted_conversion_may_have_been_granted(self):
+        p, q = self.pair()
+        with p.lock("A", Mode.NL) as held:
+            self.interrupted(q, q.lock("A", Mode.EX, blocking=print), held.convert, Mode.PR, SECONDS)
+            self.assertEqual(held.mode, Mode.PR)
 
     def test_tokens_rise_with_grants(self):
         p, q = self.pair()
@@ -169,6 +215,28 @@ class Connections(unittest.TestCase):
         self.assertEqual((told[1].status, told[1].value), (Condition.NORMAL, b"x".ljust(16, b"\0")))
         q.deq(lock)
         q.deq(0, DequeueFlags.DEQALL)
+
+    def test_a_grant_at_once_is_told_alike(self):
+        p, told = self.connection().declare(), []
+        lock = p.start("A", Mode.EX, told.append, flags=Flags.SYNCSTS)
+        self.assertTrue(p.connection.wait(SECONDS))
+        self.assertEqual((p.connection.deliver(), [it.lock for it in told]), (1, [lock]))
+
+    def test_routines_go_with_their_process(self):
+        p = self.connection().declare()
+        with p.lock("A", Mode.EX, blocking=print):
+            p.start("A", Mode.EX, print)
+            p.rundown()
+        self.assertEqual(p.connection._routines, {})
+
+    def test_a_great_descriptor_is_waited_for(self):
+        connection, limits = self.connection(), resource.getrlimit(resource.RLIMIT_NOFILE)
+        self.addCleanup(resource.setrlimit, resource.RLIMIT_NOFILE, limits)
+        resource.setrlimit(resource.RLIMIT_NOFILE, (1025, limits[1]))
+        great = os.dup2(connection.fileno(), 1024)
+        self.addCleanup(os.close, great)
+        with mock.patch.object(connection, "fileno", return_value=great):
+            self.assertFalse(connection.wait(0))
 
     def test_a_loss_is_told(self):
         losses, told = [], []
@@ -218,6 +286,87 @@ class Connections(unittest.TestCase):
                                     ("tls:127.0.0.1:1", {"certificate": "a"}, "no key is named")):
             with self.subTest(address), self.assertRaisesRegex(LostError, why):
                 connect(address, **files)
+
+    def assert_freed(self, connection, descriptor):
+        """The connection is closed, and the client in C is freed with its descriptor."""
+        self.assertTrue(connection.is_closed)
+        self.assertRaises(LostError, connection.deliver)
+        self.assertRaises(OSError, os.fstat, descriptor)
+
+    def test_closing_ends_waits_of_other_threads(self):
+        call, under_way, freed_under = _client.call, [], []
+
+        def counted(name):
+            def made(*arguments):
+                freed_under.extend(under_way if name == "close" else ())
+                under_way.append(name)
+                try:
+                    return call(name)(*arguments)
+                finally:
+                    under_way.remove(name)
+            return made
+
+        with mock.patch.object(_client, "call", counted):
+            p, q = self.pair()
+            descriptor = p.connection.fileno()
+            with ThreadPoolExecutor(1) as pool, q.lock("A", Mode.EX, blocking=print):
+                asked = pool.submit(p.lock, "A", Mode.EX, SECONDS)
+                self.assertTrue(q.connection.wait(SECONDS))
+                p.connection.close()
+                self.assertRaises(LostError, asked.result, SECONDS)
+            self.assert_freed(p.connection, descriptor)
+            self.assertEqual(freed_under, [])
+
+    def test_closing_during_calls_of_other_threads(self):
+        def use(process):
+            with suppress(LostError):
+                while True:
+                    process.lock("A", Mode.EX, SECONDS).release()
+
+        for _ in range(20):
+            connection = self.connection()
+            descriptor = connection.fileno()
+            with ThreadPoolExecutor(3) as pool:
+                asked = [pool.submit(use, connection.declare()) for _ in range(3)]
+                connection.declare().lock("A", Mode.EX).release()
+                connection.close()
+            self.assertEqual([it.result() for it in asked], [None] * 3)
+            self.assert_freed(connection, descriptor)
+
+    def test_a_routine_closes_its_connection(self):
+        p, q = self.pair()
+        descriptor = p.connection.fileno()
+        p.lock("A", Mode.EX, blocking=lambda event: p.connection.close())
+        q.start("A", Mode.EX, lambda event: None)
+        self.assertTrue(p.connection.wait(SECONDS))
+        self.assertEqual(p.connection.deliver(), 1)
+        self.assertTrue(q.connection.wait(SECONDS))
+        self.assert_freed(p.connection, descriptor)
+
+    def test_a_loss_closes_its_connection(self):
+        connection = self.connection(lambda: connection.close())
+        descriptor = connection.fileno()
+        connection.declare()
+        self.kill()
+        self.assertTrue(connection.wait(SECONDS))
+        self.assertEqual(connection.deliver(), 1)
+        self.assert_freed(connection, descriptor)
+
+    def test_a_connection_without_references_is_closed(self):
+        q = self.connection().declare()
+        connect(self.socket).declare().lock("A", Mode.EX)
+        gc.collect()
+        q.lock("A", Mode.EX, SECONDS).release()
+
+    def test_a_child_closes_nothing(self):
+        p, q = self.pair()
+        with p.lock("A", Mode.EX):
+            child = os.fork()
+            if not child:
+                p.connection.close()
+                os._exit(0)
+            self.assertEqual(os.waitpid(child, 0)[1], 0)
+            self.assertRaises(NotQueuedError, q.lock, "A", Mode.EX, flags=Flags.NOQUEUE)
 
     def test_a_closed_connection_and_a_child_are_refused(self):
         p = self.connection().declare()

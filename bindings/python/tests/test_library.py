@@ -14,11 +14,11 @@ from vlm._library import LIBRARY
 FOLDER = Path(__file__).resolve().parents[1]
 
 
-def imported(**variables):
-    """What a program says that imports the package with these variables."""
+def imported(folder="/", **variables):
+    """What a program in a folder says that imports the package with these variables."""
     env = {name: value for name, value in os.environ.items() if name not in ("VLM_LIBRARY", "VLM_PREFIX")}
     ended = subprocess.run([sys.executable, "-c", "import vlm; vlm.LockManager().close(); print('imported')"],
-                           capture_output=True, text=True, timeout=60, cwd="/",
+                           capture_output=True, text=True, timeout=60, cwd=folder,
                            env={**env, "PYTHONPATH": str(FOLDER), **variables})
     return ended.stdout or ended.stderr.splitlines()[-1]
 
@@ -41,6 +41,11 @@ class Library(unittest.TestCase):
     def test_a_prefix_is_named(self):
         (self.lib / "libvlm.so.0.2").symlink_to(self.file)
         self.assertEqual(imported(VLM_PREFIX=self.room.name), "imported\n")
+
+    def test_an_empty_prefix_names_no_folder(self):
+        (self.lib / "libvlm.so.0.2").write_text("no library")
+        (Path(self.room.name) / "libvlm.so.0.2").symlink_to(self.file)
+        self.assertEqual(imported(self.room.name, VLM_PREFIX="", LD_LIBRARY_PATH=self.room.name), "imported\n")
 
     def test_a_wheel_has_it(self):
         shutil.copytree(FOLDER / "vlm", self.lib / "vlm")

@@ -2,6 +2,7 @@
 docs/SCRIPT.md says what a line does."""
 
 import json
+import pickle
 import sys
 import unittest
 from pathlib import Path
@@ -176,6 +177,11 @@ class Parts(unittest.TestCase):
             self.assertEqual(session.run(DECLARED[:-1] % 1), "P: process 65537\n")
             self.assertRaises(LineFault, session.run, DECLARED[:-1] % 1)
             self.assertEqual(len(list(manager.processes())), 1)
+
+    def test_faults_are_pickled(self):
+        for fault in (LineFault(Fault.TOO_LONG), ScriptFault(3, Fault.TOO_LONG)):
+            again = pickle.loads(pickle.dumps(fault))
+            self.assertEqual((type(again), str(again), vars(again)), (type(fault), str(fault), vars(fault)))
 
 
 if __name__ == "__main__":

@@ -1,7 +1,9 @@
 """What `Shared` has of the library's layer for threads: held locks, routines, hooks, queues, counters, asyncio."""
 
 import asyncio
+import copy
 import gc
+import os
 import queue
 import select
 import sys
@@ -9,10 +11,12 @@ import threading
 import time
 import unittest
 import weakref
+from unittest import mock
 
 import vlm
 from vlm import (AbortError, AstKind, BadParamError, CancelError, ClosedError, Condition, DeadlockError, DepartedError,
-                 Event, Flags, Mode, NonExprError, NotQueuedError, Shared)
+                 Event, Flags, Mode, NonExprError, NotQueuedError, Shared, _contexts)
+from vlm._library import LIBRARY
 
 EMPTY = bytes(16)
 SECONDS = 30
@@ -64,6 +68,13 @@ class Threads(unittest.TestCase):
             kept.convert(Mode.PR)
             self.assertEqual(kept.value, EMPTY)
 
+    def test_an_exception_in_a_with_block_stays_the_one(self):
+        with self.assertRaises(KeyError), self.p.lock("A", Mode.EX) as held:
+            self.p.lock("B", Mode.NL, parent=held.lock)
+            raise KeyError
+        with self.assertRaises(vlm.SubLocksError), self.p.lock("C", Mode.EX) as held:
+            self.p.lock("D", Mode.NL, parent=held.lock)
+
     def test_an_ended_writer_leaves_an_invalid_value(self):
         with self.p.lock("A", Mode.NL) as kept:
             with self.q.lock("A", Mode.EX):
@@ -80,6 +91,11 @@ class Threads(unittest.TestCase):
         self.assertRaises(BadParamError, self.p.lock, "A", 6)
         self.assertRaises(ValueError, self.p.lock, "A", 1 << 32)
         self.assertRaises(BadParamError, self.shared.declare, label=32 * "x")
+        self.assertRaises(BadParamError, self.p.deq, 1, tail=b"x")
+        # (a bit that is no flag)
+        self.assertRaises(BadParamError, self.p.start, "A", Mode.EX, print, flags=1 << 15)
+        with self.p.lock("A", Mode.EX) as held:
+            self.assertRaises(BadParamError, held.convert, Mode.NL, flags=1 << 15)
         self.p.rundown()
         self.assertRaises(NonExprError, self.p.start, "A", Mode.EX, print)
         self.shared.leave(2)
@@ -98,6 +114,24 @@ class Threads(unittest.TestCase):
         self.assertEqual(ends, {lock, other})
         self.q.deq(other)
         self.p.deq(lock)
+
+    def test_a_grant_at_once_is_told_alike(self):
+        told = queue.Queue()
+        lock = self.p.start("A", Mode.EX, told.put, flags=Flags.SYNCSTS)
+        self.assertEqual(told.get(timeout=SECONDS).lock, lock)
+        self.p.start_convert(lock, Mode.NL, told.put, flags=Flags.SYNCSTS)
+        self.assertEqual(told.get(timeout=SECONDS).lock, lock)
+
+    def test_a_routine_may_be_false(self):
+        class Log(list):
+            __call__ = list.append
+
+        blocked, completed = Log(), Log()
+        with self.p.lock("A", Mode.NL, blocking=blocked) as held:
+            held.convert(Mode.EX)
+            self.q.start("A", Mode.PR, completed)
+            self.await_fact(lambda: len(blocked) == 1)
+        self.await_fact(lambda: len(completed) == 1)
 
     def test_a_routine_goes_with_its_lock(self):
         class Routine:
@@ -172,6 +206,14 @@ class Threads(unittest.TestCase):
         self.assertEqual(set(told[0].waits[0].labels), {"Paul", "Rosa"})
         self.assertRegex(told[0].text, "^A circle: .*Paul waits for Rosa on B.* The victim is lock ")
 
+    def test_a_victim_has_waited_long(self):
+        for seconds in (5_000_000, float("inf")):
+            self.open(victims_after=seconds)
+            for client, other, name in ((self.p, self.q, "A"), (self.q, self.p, "B")):
+                client.lock(name, Mode.EX)
+                other.start(name, Mode.EX, lambda event: None)
+            self.assertEqual((self.shared.search(), self.count("waiting")), (0, 2))
+
     def test_long_waits_are_told(self):
         told = queue.Queue()
         self.open(long_wait=0.01, on_long_wait=told.put)
@@ -198,6 +240,20 @@ class Threads(unittest.TestCase):
             self.assertEqual(names, [b"A"])
             self.assertRaises(ZeroDivisionError, self.shared.look, lambda manager: 1 // 0)
 
+    def test_an_interrupt_before_a_reader_is_raised(self):
+        with mock.patch.object(self.shared, "_call", lambda name: lambda *arguments: Condition.NORMAL):
+            self.assertRaises(KeyboardInterrupt, self.shared.look, len)
+
+    def test_a_refused_call_keeps_nothing(self):
+        self.shared.close()
+        kept = set(_contexts._kept)
+        self.assertRaises(ClosedError, self.shared.look, len)
+        self.assertRaises(BadParamError, Shared, long_wait=1)
+        self.assertLessEqual(set(_contexts._kept), kept)
+
+    def test_there_are_no_copies(self):
+        self.assertRaises(TypeError, copy.copy, self.shared)
+
     def test_a_shared_is_closed(self):
         self.p.start("A", Mode.EX, lambda event: None)
         self.shared.close()
@@ -205,6 +261,30 @@ class Threads(unittest.TestCase):
         self.assertTrue(self.shared.is_closed)
         for call in (self.p.rundown, self.shared.declare, self.shared.counters, self.shared.search, self.p.fileno):
             self.assertRaises(ClosedError, call)
+
+    def test_a_closed_one_is_freed_with_the_owner_of_its_hook(self):
+        class Owner:
+            def __init__(self):
+                self.shared = Shared(on_deadlock=self.told)
+
+            def told(self, deadlock):
+                pass
+
+        owner = Owner()
+        owner.shared.close()
+        known = weakref.ref(owner)
+        del owner
+        gc.collect()
+        self.assertIsNone(known())
+
+    def test_a_forked_child_frees_nothing(self):
+        kept = [Shared()]
+        child = os.fork()
+        if not child:
+            LIBRARY.vlm_threads_close = lambda layer: os._exit(1)
+            kept.clear()
+            os._exit(0)
+        self.assertEqual(os.waitpid(child, 0)[1], 0)
 
     def test_it_is_freed_by_its_own_routine(self):
         ended = threading.Event()
@@ -281,6 +361,41 @@ class Tasks(unittest.IsolatedAsyncioTestCase):
             with self.assertRaises(NotQueuedError):
                 self.q.lock("A", Mode.CR, flags=Flags.NOQUEUE)
 
+    async def test_a_conversion_that_was_granted_is_cancelled_twice(self):
+        held, other = self.p.lock("A", Mode.PR), self.q.lock("A", Mode.PR)
+        # (a routine that runs keeps the grant from being told)
+        ends = threading.Event()
+        self.p.lock("B", Mode.EX, blocking=lambda event: ends.wait(SECONDS))
+        self.q.start("B", Mode.EX, lambda event: None)
+        task = asyncio.ensure_future(held.convert_async(Mode.EX))
+        await asyncio.sleep(0.01)
+        other.release()
+        for _ in range(2):
+            task.cancel()
+            await asyncio.sleep(0)
+        ends.set()
+        with self.assertRaises(asyncio.CancelledError):
+            await task
+        self.assertEqual(held.mode, Mode.EX)
+
+    async def test_a_grant_at_once_is_told_alike(self):
+        async def use():
+            async with self.p.lock_async("A", Mode.EX, flags=Flags.SYNCSTS) as held:
+                await held.convert_async(Mode.NL, flags=Flags.SYNCSTS)
+
+        await asyncio.wait_for(use(), SECONDS)
+        self.assertEqual(self.count("locks"), 0)
+
+    async def test_closing_ends_waits(self):
+        self.p.lock("A", Mode.EX)
+        tasks = [asyncio.ensure_future(self.q.lock_async("A", Mode.EX)._granted()) for _ in range(2)]
+        await asyncio.sleep(0.01)
+        self.shared.close()
+        tasks[0].cancel()
+        for task, error in zip(tasks, (asyncio.CancelledError, DepartedError)):
+            with self.assertRaises(error):
+                await task
+
     async def test_a_conversion_ends_as_its_request_does(self):
         with self.p.lock("A", Mode.PR), self.q.lock("A", Mode.CR) as held:
             task = asyncio.ensure_future(held.convert_async(Mode.EX))
@@ -289,6 +404,12 @@ class Tasks(unittest.IsolatedAsyncioTestCase):
             with self.assertRaises(CancelError):
                 await task
             self.assertEqual(held.mode, Mode.CR)
+            task = asyncio.ensure_future(held.convert_async(Mode.EX))
+            await asyncio.sleep(0.01)
+            self.q.cancel_all()
+            task.cancel()
+            with self.assertRaises(asyncio.CancelledError):
+                await task
             with self.assertRaises(NotQueuedError):
                 await held.convert_async(Mode.EX, flags=Flags.NOQUEUE)
 

@@ -5,14 +5,18 @@ import random
 import signal
 import subprocess
 import sys
+import threading
 import time
 import unittest
 from concurrent.futures import ThreadPoolExecutor
 from contextlib import suppress
+from functools import partial
 from pathlib import Path
+from unittest import mock
 
 from vlm import (AbortError, CancelError, ClosedError, DeadlockError, DepartedError, ExEnqLmError, Mode, NonExprError,
                  Shared, TimedOutError)
+from vlm._asks import Asked
 
 EXAMPLES = Path(__file__).resolve().parents[1] / "examples"
 SECONDS = 30
@@ -138,19 +142,81 @@ class Waits(unittest.TestCase):
         self.p.lock("A", Mode.EX, float("inf")).release()
         self.p.lock("A", Mode.EX, 1e300).release()
 
-    def assert_interrupted(self, call, *arguments):
-        """Interrupts a wait of the main thread. One lock is left, and no request."""
+    def interrupt(self, before=lambda: None):
+        """Once a request waits, the main thread makes a call, and is interrupted."""
         def interrupt(_number, _frame):
+            signal.setitimer(signal.ITIMER_REAL, 0)
+            before()
             raise KeyboardInterrupt
 
         self.addCleanup(signal.signal, signal.SIGALRM, signal.signal(signal.SIGALRM, interrupt))
-        signal.setitimer(signal.ITIMER_REAL, 0.05)
+        # (a signal just before the thread sleeps does not wake it, and the next one does)
+        self.pool.submit(self.do_once_it_waits, partial(signal.setitimer, signal.ITIMER_REAL, 0.001, 0.05))
+
+    def assert_interrupted(self, call, *arguments):
+        """Interrupts a wait of the main thread. One lock is left, and no request."""
+        self.interrupt()
         self.assertRaises(KeyboardInterrupt, call, *arguments)
         self.assertEqual((self.count(), self.count("locks")), (0, 1))
 
     def test_an_interrupted_wait_leaves_no_request(self):
         with self.p.lock("A", Mode.EX):
             self.assert_interrupted(self.q.lock, "A", Mode.EX, SECONDS)
+
+    def test_an_interrupted_conversion_may_have_been_granted(self):
+        for by_program in (False, True):
+            self.shared = Shared(by_program=by_program)
+            self.addCleanup(self.shared.close)
+            with self.shared.declare().lock("A", Mode.NL) as held:
+                self.interrupt(self.shared.declare().lock("A", Mode.EX, value=b"new").release)
+                self.assertRaises(KeyboardInterrupt, held.convert, Mode.PR, SECONDS)
+                self.assertEqual((held.mode, held.value), (Mode.PR, b"new".ljust(16, b"\0")))
+
+    def test_an_interrupt_after_the_grant_leaves_no_lock(self):
+        make = Asked.make
+
+        def interrupted(asked, timeout):
+            make(asked, timeout)
+            raise KeyboardInterrupt
+
+        with mock.patch.object(Asked, "make", interrupted):
+            self.assertRaises(KeyboardInterrupt, self.p.lock, "A", Mode.EX)
+        self.assertEqual(self.count("locks"), 0)
+
+    def test_an_interrupt_at_the_start_of_a_wait_leaves_no_request(self):
+        start = threading.Thread.start
+
+        def interrupted(thread):
+            start(thread)
+            self.do_once_it_waits(lambda: None)
+            raise KeyboardInterrupt
+
+        with self.p.lock("A", Mode.EX):
+            with mock.patch.object(threading.Thread, "start", interrupted):
+                self.assertRaises(KeyboardInterrupt, self.q.lock, "A", Mode.EX, SECONDS)
+            self.assertEqual((self.count(), self.count("locks")), (0, 1))
+
+    def test_an_interrupt_after_closing_stays_one(self):
+        self.p.lock("A", Mode.EX)
+        self.interrupt(self.shared.close)
+        self.assertRaises(KeyboardInterrupt, self.q.lock, "A", Mode.EX, SECONDS)
+
+    def test_a_wait_ends_while_a_routine_runs(self):
+        runs, goes_on, ends = threading.Event(), threading.Event(), []
+
+        def give_way(_event):
+            runs.set()
+            ends.append(goes_on.wait(SOON))
+            held.release()
+
+        held = self.p.lock("A", Mode.EX, blocking=give_way)
+        asked = self.waiting(self.q.lock, "A", Mode.PR, SECONDS)
+        runs.wait(SOON)
+        with self.q.lock("B", Mode.EX):
+            self.assertRaises(TimedOutError, self.p.lock, "B", Mode.EX, 0.01)
+        self.assertEqual(ends, [])
+        goes_on.set()
+        asked.result(SOON).release()
 
     def test_the_main_thread_waits_where_the_program_calls_routines(self):
         other = Shared(by_program=True)
@@ -186,6 +252,10 @@ class Waits(unittest.TestCase):
             self.assertRaises(TimedOutError, other.convert, Mode.EX, 0.01)
         later.result(SOON)
         self.assertEqual((self.count(), self.count("locks")), (0, 0))
+        self.p.lock("A", Mode.EX)
+        later = self.pool.submit(self.do_once_it_waits, self.shared.close)
+        self.assertRaises(DepartedError, self.q.lock, "A", Mode.EX, SECONDS)
+        later.result(SOON)
 
     def test_a_time_out_races_with_a_grant(self):
         granted = timed_out = 0

@@ -5,7 +5,7 @@ import threading
 from operator import index
 from typing import Any, Optional, Tuple
 
-from .values import InBlock, Name, Which
+from .values import Flags, InBlock, Name, Which
 
 
 def word(number: int, what: str) -> int:
@@ -13,6 +13,11 @@ def word(number: int, what: str) -> int:
     if not 0 <= index(number) < 1 << 32:
         raise ValueError(f"{what} does not fit into 32 bits")
     return index(number)
+
+
+def flags_word(flags: int) -> int:
+    """The flags of a request that waits or has a completion routine. Each grant is told alike, so without SYNCSTS."""
+    return word(flags, "flags") & ~int(Flags.SYNCSTS)
 
 
 def mark(flag: Any) -> int:

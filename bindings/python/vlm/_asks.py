@@ -9,7 +9,7 @@ from typing import TYPE_CHECKING, Any, Callable, Optional
 from . import _library as raw
 from ._arguments import seconds
 from ._contexts import Call, Context, forget, give
-from .errors import checked
+from .errors import ClosedError, checked
 from .values import Condition, Event, Flags
 
 if TYPE_CHECKING:
@@ -20,6 +20,8 @@ if TYPE_CHECKING:
 # Seconds between two attempts to cancel an interrupted wait. The first one may come before the wait begins.
 _AGAIN = 0.01
 _NORMAL, _SYNCH, _NOTQUEUED = int(Condition.NORMAL), int(Condition.SYNCH), int(Condition.NOTQUEUED)
+# The statuses of a request that was granted.
+GRANTS = (_NORMAL, int(Condition.VALNOTVALID), int(Condition.WIDENOTVALID))
 
 
 def milliseconds(timeout: Optional[float]) -> int:
@@ -39,19 +41,22 @@ class Asked:
         words.value = raw.address_of(self.value)
 
     def wait(self, timeout: Optional[float]) -> int:
-        """Makes the request and waits for its end: the answer, NORMAL for a grant.
+        """Makes the request and waits for its end: the answer, NORMAL for a grant. After an exception it is not queued,
+        but it may have been granted.
 
-        A wait in the library can't be interrupted. So the main thread, which gets Python's signals, waits for the
-        completion routine, or, where the program itself calls that, for another thread that waits."""
+        A wait in the library can't be interrupted. So the main thread, which gets Python's signals, waits for another
+        thread that waits there."""
         if threading.current_thread() is not threading.main_thread():
             return self.make(timeout)
-        longest, flags = seconds(timeout), self.words.flags
+        # (a wrong time is refused before anything is asked for)
+        milliseconds(timeout)
+        flags = self.words.flags
         self.words.flags = flags | Flags.NOQUEUE
         status = self.make(None)
         self.words.flags = flags
         if status != _NOTQUEUED or flags & Flags.NOQUEUE:
             return status
-        return Waiting(self, longest).wait() if self.client._is_called else LentWaiting(self, timeout).wait()
+        return Waiting(self, timeout).wait()
 
     def make(self, timeout: Optional[float]) -> int:
         """Makes the request and waits for its end in the library."""
@@ -96,15 +101,22 @@ class Asked:
     def end(self, event: Optional[Event]) -> int:
         """The answer to a request that ended so; without an event its process did."""
         if event is None:
-            return int(Condition.NONEXPR)
+            # (a call for the process is answered how that ended)
+            return self._deq(self.words.lkid, 2)
         status = self.words.status = int(event.status or 0)
         self.value[:] = (event.value or bytes(16)) + (event.tail or bytes(48))
-        return _NORMAL if status in (_NORMAL, Condition.VALNOTVALID, Condition.WIDENOTVALID) else status
+        return _NORMAL if status in GRANTS else status
+
+    def _deq(self, lock: int, flags: int) -> int:
+        """Gives the lock up, or cancels its request. Closing the lock manager ended its process as a departure does."""
+        try:
+            return self.client._deq(lock, flags)
+        except ClosedError:
+            return int(Condition.DEPARTED)
 
     def cancel(self) -> bool:
         """Cancels the request: whether it has not been granted."""
-        status = self.client._deq(self.words.lkid, 2)
-        return status != Condition.CANCELGRANT
+        return self._deq(self.words.lkid, 2) != Condition.CANCELGRANT
 
     def undo(self) -> None:
         """Cancels the request. A new lock that was granted meanwhile is given up."""
@@ -112,76 +124,55 @@ class Asked:
             self.give_up()
 
     def give_up(self) -> None:
-        """Gives up a new lock, which was granted."""
-        if self.name is not None:
-            self.client._deq(self.words.lkid, 0)
+        """Gives up a new lock, if it was granted."""
+        if self.name is not None and self.words.lkid:
+            self._deq(self.words.lkid, 0)
 
     def cancel_wait(self) -> None:
         """Cancels the request for which another thread waits in the library, if it waits already."""
         shared, lock = self.client.shared, c_uint32()
-        shared._call("lkid")(shared._open_layer(), self.words, lock)
+        shared._call("lkid")(shared._layer, self.words, lock)
         if lock.value:
-            self.client._deq(lock.value, 2)
+            self._deq(lock.value, 2)
 
 
 class Waiting:
-    """A wait of this thread for a request that another thread ends."""
-
-    def __init__(self, asked: Asked, longest: Optional[float]) -> None:
-        self._asked, self._longest = asked, longest
-        self._ended = threading.Event()
-        self._event: Optional[Event] = None
-
-    def wait(self) -> int:
-        try:
-            status = self._asked.start(self._tell, self._ended.set)
-            if status != _NORMAL:
-                return status
-            is_late = not self._ended.wait(self._longest) and self._asked.cancel()
-            self._ended.wait()
-        except BaseException:
-            if self._asked.words.lkid:
-                self._asked.undo()
-            raise
-        ended = self._asked.end(self._event)
-        is_cancelled = ended in (Condition.ABORT, Condition.CANCEL)
-        return raw.TIMEOUT if is_late and is_cancelled else ended
-
-    def _tell(self, event: Event) -> None:
-        self._event = event
-        self._ended.set()
-
-
-class LentWaiting:
-    """A wait of this thread for another one, which makes the request and waits in the library."""
+    """A wait of this thread for another one, which makes a request and waits in the library."""
 
     def __init__(self, asked: Asked, timeout: Optional[float]) -> None:
         self._asked, self._timeout = asked, timeout
         self._ended = threading.Event()
+        # The other thread makes no request for a wait that was given up before.
+        self._mutex, self._has_begun, self._is_given_up = threading.Lock(), False, False
         self._status = 0
         self._error: Optional[BaseException] = None
 
     def wait(self) -> int:
-        threading.Thread(target=self._make, daemon=True).start()
         try:
+            threading.Thread(target=self._make, daemon=True).start()
             self._ended.wait()
         except BaseException:
-            self._undo()
+            self._end()
             raise
         if self._error is not None:
             raise self._error
         return self._status
 
     def _make(self) -> None:
+        with self._mutex:
+            if self._is_given_up:
+                return
+            self._has_begun = True
         try:
             self._status = self._asked.make(self._timeout)
         except BaseException as error:  # (the thread that waits raises it)
             self._error = error
         self._ended.set()
 
-    def _undo(self) -> None:
-        while not self._ended.is_set():
+    def _end(self) -> None:
+        """Ends the wait, if it has begun."""
+        with self._mutex:
+            self._is_given_up = True
+        while self._has_begun and not self._ended.is_set():
             self._asked.cancel_wait()
             self._ended.wait(_AGAIN)
-        if self._status == _NORMAL:
-            self._asked.give_up()

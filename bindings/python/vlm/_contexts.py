@@ -34,6 +34,11 @@ def keep(context: Any) -> int:
     return number
 
 
+def replace(number: int, context: Any) -> None:
+    """Gives a number another context."""
+    _kept[number] = context
+
+
 def forget(number: int) -> None:
     _kept.pop(number, None)
 
@@ -42,8 +47,8 @@ def give(context: Context, words: raw.Sized) -> int:
     """Writes the callables of a request into its words, and returns their number."""
     number = keep(context)
     words.completion_context = words.blocking_context = number
-    words.completion = _completed if context.completion else _NONE
-    words.blocking = _blocked if context.blocking else _NONE
+    words.completion = _completed if context.completion is not None else _NONE
+    words.blocking = _blocked if context.blocking is not None else _NONE
     words.released = _released
     return number
 

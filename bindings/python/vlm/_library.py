@@ -219,7 +219,7 @@ def _place() -> str:
     looks."""
     if os.environ.get("VLM_LIBRARY"):
         return os.environ["VLM_LIBRARY"]
-    installed = [Path(os.environ["VLM_PREFIX"], "lib", FILE)] if "VLM_PREFIX" in os.environ else []
+    installed = [Path(os.environ["VLM_PREFIX"], "lib", FILE)] if os.environ.get("VLM_PREFIX") else []
     return next((str(file) for file in [*installed, Path(__file__).with_name(FILE)] if file.exists()), FILE)
 
 

@@ -27,8 +27,11 @@ class LineFault(ValueError):
     """A line has a fault. Its text is that of the fault."""
 
     def __init__(self, fault: Fault) -> None:
-        super().__init__(fault.value)
+        super().__init__(fault)
         self.fault = fault
+
+    def __str__(self) -> str:
+        return str(self.fault.value)
 
 
 # The steps, by their names in docs/MACHINE.md. A field is the word of the line with the same key, or the word in its

@@ -5,10 +5,10 @@ from types import TracebackType
 from typing import TYPE_CHECKING, Any, Generator, Optional, Type
 
 from . import _library as raw
-from ._arguments import name_bytes, part, word
+from ._arguments import flags_word, name_bytes, part, word
 from ._asks import Asked
 from ._contexts import Call
-from .errors import checked, error_of
+from .errors import BadParamError, checked, error_of
 from .held import Held
 from .values import Condition, DequeueFlags, Flags, Mode, Name
 
@@ -19,17 +19,15 @@ if TYPE_CHECKING:
 class Client:
     """A process: `Shared.declare` makes it. Threads may share it."""
 
-    def __init__(self, shared: "Shared", pid: int, has_queue: bool) -> None:
+    def __init__(self, shared: "Shared", pid: int) -> None:
         self.shared, self.pid = shared, pid
-        # Whether a thread of the layer calls its routines.
-        self._is_called: bool = not has_queue and not shared.is_by_program
 
     def __repr__(self) -> str:
         return f"<Client {self.pid}>"
 
     def _asked(self, name: Name, mode: Mode, flags: Flags, parent: int, blocking: Optional[Call]) -> Asked:
-        given = word(flags, "flags")
-        words = raw.ThreadsRequest(pid=self.pid, mode=word(mode, "mode"), flags=given | 1, lock=word(parent, "parent"))
+        words = raw.ThreadsRequest(pid=self.pid, mode=word(mode, "mode"), flags=flags_word(flags) | Flags.VALBLK,
+                                   lock=word(parent, "parent"))
         return Asked(self, words, name_bytes(name), blocking)
 
     def lock(self, name: Name, mode: Mode, timeout: Optional[float] = None, value: Optional[bytes] = None, *,
@@ -42,10 +40,14 @@ class Client:
         says that a search chose the request. `blocking` is called once the lock is in the way of another request."""
         asked = self._asked(name, mode, flags, parent, blocking)
         given = None if value is None else part(value, 16, "the value")
-        status = asked.wait(timeout)
-        if status != Condition.NORMAL:
-            raise error_of(status)
-        held = Held(self, mode, asked)
+        try:
+            status = asked.wait(timeout)
+            if status != Condition.NORMAL:
+                raise error_of(status)
+            held = Held(self, mode, asked)
+        except BaseException:
+            asked.give_up()
+            raise
         held._value = given
         return held
 
@@ -65,7 +67,7 @@ class Client:
     def start_convert(self, lock: int, mode: Mode, completion: Call, *, flags: Flags = Flags.NONE,
                       blocking: Optional[Call] = None) -> None:
         """The same for another mode of a lock. Without a blocking routine it has none after the grant."""
-        words = raw.ThreadsRequest(pid=self.pid, mode=word(mode, "mode"), flags=word(flags, "flags"),
+        words = raw.ThreadsRequest(pid=self.pid, mode=word(mode, "mode"), flags=flags_word(flags),
                                    lock=word(lock, "the lock"))
         self._started(Asked(self, words, None, blocking), completion)
 
@@ -83,6 +85,8 @@ class Client:
         """Gives a lock up, or with DEQALL all locks below it, or without one all of the process, or cancels its
         request ($DEQ). A lock that holds PW or EX writes the value into the value block."""
         words = raw.ThreadsDequeue(pid=self.pid, lock=word(lock, "the lock"), flags=word(flags, "flags"))
+        if value is None and tail is not None:
+            raise BadParamError
         if value is not None:
             given = part(value, 16, "the value") + part(tail, 48, "the tail")
             written = raw.Value(*given)

@@ -6,14 +6,16 @@ import weakref
 from contextlib import suppress
 from ctypes import addressof, byref, c_int, c_uint32, c_uint64, c_void_p, create_string_buffer
 from dataclasses import dataclass
+from itertools import count
+from math import ceil
 from types import TracebackType
-from typing import Any, Callable, Dict, Optional, Type
+from typing import Any, Callable, Dict, Optional, Set, Type
 
 from . import _client as raw
-from ._arguments import name_bytes, part, seconds, word
-from ._asks import milliseconds
+from ._arguments import flags_word, name_bytes, part, seconds, word
+from ._asks import GRANTS, milliseconds
 from ._library import ROUTINE, address_of
-from .errors import DepartedError, LostError, NonExprError, checked
+from .errors import BadParamError, DepartedError, LostError, NonExprError, VlmError, checked
 from .held import HeldLock
 from .values import Condition, DequeueFlags, Flags, Mode, Name
 
@@ -34,6 +36,54 @@ class ServedEvent:
 
 # What a routine of a connection is called with.
 Routine = Callable[[ServedEvent], object]
+# The longest wait for a descriptor, in milliseconds.
+_LONGEST = (1 << 31) - 1
+
+
+class _Client:
+    """A client in C. It is freed once it was closed and no call is under way. It has no mutex, so that routines, signal
+    handlers and the garbage collector may close it during a call."""
+
+    def __init__(self, handle: c_void_p) -> None:
+        self._handle = handle
+        self.is_closed = False
+        # The processes, whose ends end waits.
+        self.processes: Set[int] = set()
+        # The calls under way: one is added before it looks whether the client is closed.
+        self._calls: Set[object] = set()
+        # What is to be freed: the one call that takes it out frees it.
+        self._kept = [handle]
+
+    def call(self, name: str, *arguments: Any) -> int:
+        """Makes a call of vlm_client.h."""
+        this = object()
+        try:
+            self._calls.add(this)
+            if self.is_closed:
+                return raw.LOST
+            status: int = raw.call(name)(self._handle, *arguments)
+        finally:
+            self._end(this)
+        return raw.LOST if self.is_closed and status == Condition.NONEXPR else status
+
+    def close(self) -> None:
+        """Ends all calls that wait. The last call that is under way frees the client. A forked child frees nothing:
+        each call is refused there."""
+        this = object()
+        try:
+            self._calls.add(this)
+            if not self.is_closed:
+                self.is_closed = True
+                for pid in list(self.processes) if len(self._calls) > 1 else ():
+                    raw.call("rundown")(self._handle, pid)
+        finally:
+            self._end(this)
+
+    def _end(self, call: object) -> None:
+        self._calls.discard(call)
+        if self.is_closed and not self._calls:
+            with suppress(IndexError):
+                raw.call("close")(self._kept.pop())
 
 
 class Connection:
@@ -51,7 +101,7 @@ class Connection:
         VLM_TLS_AUTHORITY if they are not named. `deliver` calls `on_lost` once the locks are lost. LostError says why
         there is no connection."""
         self._routines: Dict[int, Routine] = {}
-        self._next = 0
+        self._numbers = count(1)
         self._on_lost = on_lost
         # (C calls these, so they live as long as the connection)
         self._called = ROUTINE(self._run)
@@ -66,23 +116,22 @@ class Connection:
             checked(raw.call("open")(byref(options), byref(handle)))
         except LostError:
             raise LostError(reason.value.decode(errors="replace")) from None
-        self._handle = handle
-        self._closing = weakref.finalize(self, raw.call("close"), handle)
-        self._closing.atexit = False
+        self._client = _Client(handle)
+        weakref.finalize(self, self._client.close).atexit = False
 
     def call(self, name: str, *arguments: Any) -> Condition:
         """Makes a call of vlm_client.h."""
-        if self.is_closed:
-            raise LostError
-        return checked(raw.call(name)(self._handle, *arguments))
+        return checked(self._client.call(name, *arguments))
 
     def close(self) -> None:
-        """Ends the session with all its locks. A second call does nothing. After it calls raise LostError."""
-        self._closing()
+        """Ends the session with all its locks. While other calls are under way, or in a routine, it ends the processes
+        with their locks, and the last of these calls ends the session. A second call does nothing. Waits for locks, and
+        calls after it, raise LostError."""
+        self._client.close()
 
     @property
     def is_closed(self) -> bool:
-        return not self._closing.alive
+        return self._client.is_closed
 
     def reopen(self) -> None:
         """Begins a new session after a loss. The processes of the old one are gone: declare new ones."""
@@ -100,7 +149,13 @@ class Connection:
         pid = c_uint32()
         words = raw.Declaration(quota=word(quota, "the quota"), requests=word(requests, "the number of requests"))
         self.call("declare", byref(words), byref(pid))
+        self._client.processes.add(pid.value)
         return ServedProcess(self, pid.value)
+
+    def rundown(self, pid: int) -> None:
+        """Ends a process with all its locks."""
+        self.call("rundown", pid)
+        self._client.processes.discard(pid)
 
     def token(self, lock: int) -> int:
         """Asks the service for the fencing token of a lock: of its last request that was granted. A later grant has a
@@ -116,8 +171,11 @@ class Connection:
         return descriptor.value
 
     def wait(self, timeout: Optional[float] = None) -> bool:
-        """Waits until a routine is to be called, at most for these seconds. Returns whether one is."""
-        return bool(select.select([self.fileno()], [], [], seconds(timeout))[0])
+        """Waits until a routine is to be called, at most for these seconds. Returns whether one is. It does not notice
+        that another thread closes the connection."""
+        poll, longest = select.poll(), seconds(timeout)
+        poll.register(self.fileno(), select.POLLIN)
+        return bool(poll.poll(None if longest is None else min(ceil(longest * 1000), _LONGEST)))
 
     def deliver(self) -> int:
         """Calls the routines whose requests have ended or whose locks are in the way, oldest first. Returns how many
@@ -126,11 +184,11 @@ class Connection:
         self.call("dispatch", byref(delivered))
         return delivered.value
 
-    def routine_of(self, routine: Routine) -> int:
-        """The number by which C knows a routine."""
-        self._next += 1
-        self._routines[self._next] = routine
-        return self._next
+    def keep(self, routine: Routine) -> int:
+        """The number by which C knows a routine from here on."""
+        number = next(self._numbers)
+        self._routines[number] = routine
+        return number
 
     def forget(self, number: int) -> None:
         self._routines.pop(number, None)
@@ -140,7 +198,10 @@ class Connection:
         value = bytes(words.value)[:words.value_len] if words.value_len else None
         is_lost = words.status == raw.LOST
         status = Condition(words.status) if words.status and not is_lost else None
-        self._routines[context](ServedEvent(words.pid, words.lkid, words.kind == 2, is_lost, status, value))
+        routine = self._routines.get(context)
+        # (another thread may have given its lock up, or run its process down)
+        if routine is not None:
+            routine(ServedEvent(words.pid, words.lkid, words.kind == 2, is_lost, status, value))
 
     def _tell_loss(self, _context: int) -> None:
         if self._on_lost is not None:
@@ -153,6 +214,8 @@ class ServedProcess:
     def __init__(self, connection: Connection, pid: int) -> None:
         self.connection = connection
         self.pid = pid
+        # The numbers of its routines.
+        self._routines: Set[int] = set()
 
     def __repr__(self) -> str:
         return f"<process {self.pid} of the lock service>"
@@ -161,20 +224,25 @@ class ServedProcess:
              flags: Flags = Flags.NONE, parent: Optional[int] = None,
              blocking: Optional[Routine] = None) -> "ServedLock":
         """Asks for a lock and waits for the grant, at most for these seconds. `with` gives the lock up at its end, and
-        writes the value, if one is given here or by `write`.
+        writes the value, if one is given here or by `write`. Ctrl-C ends a wait of the main thread only with its
+        request.
 
         TimedOutError says that the request was cancelled; a grant that came too late counts as granted. DeadlockError
         says that a search of the service chose the request. LostError says that the service or the session has
         ended."""
         text, given = name_bytes(name), None if value is None else part(value, 16, "the value")
-        flags = flags | Flags.VALBLK
-        request = self.request(mode, flags, timeout, lock=0 if parent is None else parent, blocking=blocking)
+        request = self.request(mode, flags | Flags.VALBLK, timeout, lock=0 if parent is None else parent,
+                               blocking=blocking)
         try:
             self.connection.call("enq", byref(request.words), text, len(text))
+            held = ServedLock(self, request, mode)
         except BaseException:
-            self.connection.forget(request.routine)
+            if request.words.lkid:
+                # (it was granted, and then interrupted)
+                with suppress(VlmError, LostError):
+                    self.deq(request.words.lkid)
+            self.forget(request.routine)
             raise
-        held = ServedLock(self, request, mode)
         if given is not None:
             held.write(given)
         return held
@@ -186,15 +254,15 @@ class ServedProcess:
         request = self.request(mode, flags | Flags.VALBLK, None)
 
         def completed(event: ServedEvent) -> None:
-            self.connection.forget(number)
+            self.forget(number)
             completion(event)
 
-        number = self.connection.routine_of(completed)
+        number = self.keep(completed)
         request.words.completion, request.words.completion_context = self.connection._called, number
         try:
             self.connection.call("start_enq", byref(request.words), text, len(text))
         except BaseException:
-            self.connection.forget(number)
+            self.forget(number)
             raise
         return int(request.words.lkid)
 
@@ -202,6 +270,8 @@ class ServedProcess:
             tail: Optional[bytes] = None) -> None:
         """Gives a lock up, or several with DEQALL, or cancels its request, as `Process.deq`."""
         words = raw.Dequeue(pid=self.pid, flags=word(flags, "flags"), lock=word(lock, "the lock"))
+        if value is None and tail is not None:
+            raise BadParamError
         if value is not None:
             whole = part(value, 16, "the value") + part(tail, 48, "the tail")
             room = raw.room_of(whole)
@@ -210,7 +280,19 @@ class ServedProcess:
 
     def rundown(self) -> None:
         """Ends the process with all its locks."""
-        self.connection.call("rundown", self.pid)
+        self.connection.rundown(self.pid)
+        for number in list(self._routines):
+            self.forget(number)
+
+    def keep(self, routine: Routine) -> int:
+        """The number by which C knows a routine, until it is forgotten or the process is run down."""
+        number = self.connection.keep(routine)
+        self._routines.add(number)
+        return number
+
+    def forget(self, number: int) -> None:
+        self._routines.discard(number)
+        self.connection.forget(number)
 
     def request(self, mode: Mode, flags: int, timeout: Optional[float], *, lock: int = 0,
                 blocking: Optional[Routine] = None, value: bytes = b"") -> "_Request":
@@ -223,10 +305,10 @@ class _Request:
     def __init__(self, process: ServedProcess, mode: Mode, flags: int, timeout: Optional[float], lock: int,
                  blocking: Optional[Routine], value: bytes) -> None:
         self.value = raw.room_of(value)
-        self.routine = 0 if blocking is None else process.connection.routine_of(blocking)
-        self.words = raw.Request(pid=process.pid, mode=word(mode, "mode"), flags=word(flags, "flags"),
-                                 lock=word(lock, "the lock"), milliseconds=milliseconds(timeout),
-                                 value=address_of(self.value))
+        self.words = raw.Request(pid=process.pid, mode=word(mode, "mode"),
+                                 flags=flags_word(flags), lock=word(lock, "the lock"),
+                                 milliseconds=milliseconds(timeout), value=address_of(self.value))
+        self.routine = 0 if blocking is None else process.keep(blocking)
         if blocking is not None:
             self.words.blocking, self.words.blocking_context = process.connection._called, self.routine
 
@@ -248,15 +330,21 @@ class ServedLock(HeldLock):
                 blocking: Optional[Routine] = None) -> None:
         """Asks for another mode and waits for the grant. If it fails, the lock holds what it held. The blocking routine
         takes the place of the old one; without one the lock has none."""
-        connection, is_written = self.process.connection, self.mode >= Mode.PW and self._value is not None
-        request = self.process.request(mode, self._flags_to(mode, flags), timeout, lock=self.lock, blocking=blocking,
-                                       value=self._written() if is_written else b"")
+        process, is_written = self.process, self.mode >= Mode.PW and self._value is not None
+        request = process.request(mode, self._flags_to(mode, flags), timeout, lock=self.lock, blocking=blocking,
+                                  value=self._written() if is_written else b"")
         try:
-            connection.call("convert", byref(request.words))
-        except BaseException:
-            connection.forget(request.routine)
-            raise
-        connection.forget(self._routine)
+            process.connection.call("convert", byref(request.words))
+        finally:
+            # (one that was granted may have been interrupted then)
+            if request.words.status in GRANTS:
+                self._converted(mode, request, is_written)
+            else:
+                process.forget(request.routine)
+
+    def _converted(self, mode: Mode, request: _Request, is_written: bool) -> None:
+        """The request for another mode was granted."""
+        self.process.forget(self._routine)
         if self._is_read_by(mode):
             self._granted = request
         elif is_written:
@@ -271,19 +359,19 @@ class ServedLock(HeldLock):
     def release(self) -> None:
         """Gives the lock up, and writes the value that was named. A second call does nothing."""
         if self._is_held:
-            self._is_held = False
             self.process.deq(self.lock, value=self._value, tail=self._tail)
-            self.process.connection.forget(self._routine)
+            self._is_held = False
+            self.process.forget(self._routine)
 
     def __enter__(self) -> "ServedLock":
         return self
 
     def __exit__(self, kind: Optional[Type[BaseException]], error: Optional[BaseException],
                  trace: Optional[TracebackType]) -> None:
-        """Gives the lock up. After an exception it writes nothing, and a loss is not raised beside that."""
+        """Gives the lock up. After an exception it writes nothing, and raises no other one."""
         if kind is not None:
             self._value = self._tail = None
-        with suppress(NonExprError, DepartedError, *([LostError] if kind is not None else [])):
+        with suppress(NonExprError, DepartedError, *([VlmError, LostError] if kind is not None else [])):
             self.release()
 
 

@@ -5,16 +5,16 @@ from types import TracebackType
 from typing import TYPE_CHECKING, Any, Optional, Type
 
 from . import _library as raw
-from ._arguments import part, word
-from ._asks import Asked
+from ._arguments import flags_word, part, word
+from ._asks import GRANTS, Asked
 from ._contexts import Call
-from .errors import ClosedError, DepartedError, NonExprError, error_of
+from .errors import ClosedError, DepartedError, NonExprError, VlmError, error_of
 from .values import Condition, Flags, Mode
 
 if TYPE_CHECKING:
     from .clients import Client
 
-_VALUE_FLAGS = Flags.VALBLK | Flags.WIDE
+_VALUE_FLAGS = int(Flags.VALBLK | Flags.WIDE)
 
 
 class HeldLock:
@@ -63,7 +63,7 @@ class HeldLock:
 
     def _flags_to(self, mode: Mode, flags: Flags) -> int:
         """The flags of a conversion, by which it returns the value block, or writes the value that was named."""
-        given = word(flags, "flags")
+        given = flags_word(flags)
         if self._is_read_by(mode):
             return given | Flags.VALBLK
         if self.mode < Mode.PW or self._value is None:
@@ -88,14 +88,21 @@ class Held(HeldLock):
 
     def convert(self, mode: Mode, timeout: Optional[float] = None, *, flags: Flags = Flags.NONE,
                 blocking: Optional[Call] = None) -> None:
-        """Asks for another mode and waits for the grant. If it fails, the lock holds what it held. Without another
-        blocking routine the old one stays: the grant arms it again."""
+        """Asks for another mode and waits for the grant. If it fails, the lock holds what it held. After Ctrl-C it
+        holds the new mode if that was granted by then. Without another blocking routine the old one stays: the grant
+        arms it again."""
         asked = self._conversion(mode, flags, blocking)
-        self._converted(mode, asked, asked.wait(timeout))
+        try:
+            status = asked.wait(timeout)
+        except BaseException:
+            if asked.words.status in GRANTS:
+                self._converted(mode, asked, Condition.NORMAL)
+            raise
+        self._converted(mode, asked, status)
 
     async def convert_async(self, mode: Mode, *, flags: Flags = Flags.NONE, blocking: Optional[Call] = None) -> None:
         """The same for asyncio. A task that is cancelled leaves nothing queued. If the conversion was granted by then,
-        the lock holds the new mode."""
+        the lock holds the new mode, and `value` is that of an earlier grant."""
         import asyncio
         asked = self._conversion(mode, flags, blocking)
         ended = asked.start_in_task()
@@ -103,14 +110,14 @@ class Held(HeldLock):
             status = asked.end(await asyncio.shield(ended))
         except BaseException:
             if not asked.cancel():
-                self._converted(mode, asked, asked.end(await ended))
+                self._read_mode(mode, asked)
             raise
         self._converted(mode, asked, status)
 
     def _conversion(self, mode: Mode, flags: Flags, blocking: Optional[Call]) -> Asked:
         words = raw.ThreadsRequest(pid=self.client.pid, mode=word(mode, "mode"), lock=self.lock,
                                    flags=self._flags_to(mode, flags))
-        asked = Asked(self.client, words, None, blocking or self._blocking)
+        asked = Asked(self.client, words, None, self._blocking if blocking is None else blocking)
         if self._is_written_by(mode):
             asked.value[:] = self._written()
         return asked
@@ -129,6 +136,15 @@ class Held(HeldLock):
             self._value = self._tail = None
         self.mode, self._blocking = Mode(mode), asked.blocking
 
+    def _read_mode(self, mode: Mode, asked: Asked) -> None:
+        """Looks whether a request for another mode was granted whose end is not told yet."""
+        with suppress(ClosedError):
+            view = self.client.shared.look(lambda manager: manager.find_lock(self.lock))
+            if view is not None and view.held == mode != self.mode:
+                if self._is_written_by(mode):
+                    self._value = self._tail = None
+                self.mode, self._blocking = Mode(mode), asked.blocking
+
     def release(self) -> None:
         """Gives the lock up, and writes the value that was named. A second call does nothing."""
         if self._is_held:
@@ -140,8 +156,9 @@ class Held(HeldLock):
 
     def __exit__(self, kind: Optional[Type[BaseException]], error: Optional[BaseException],
                  trace: Optional[TracebackType]) -> None:
-        """Gives the lock up. After an exception it writes nothing. A lock that went with its process is no error."""
+        """Gives the lock up. After an exception it writes nothing, and raises no other one. A lock that went with its
+        process is no error."""
         if kind is not None:
             self._value = self._tail = None
-        with suppress(NonExprError, DepartedError, ClosedError):
+        with suppress(NonExprError, DepartedError, ClosedError, *([VlmError] if kind is not None else [])):
             self.release()

@@ -108,8 +108,11 @@ class ScriptFault(ValueError):
     """A line of a script has a fault. Its text is what `vlm play` writes to standard error."""
 
     def __init__(self, number: int, fault: Fault) -> None:
-        super().__init__(f"line {number}: {fault.value}")
+        super().__init__(number, fault)
         self.number, self.fault = number, fault
+
+    def __str__(self) -> str:
+        return f"line {self.number}: {self.fault.value}"
 
 
 def play(manager: LockManager, script: bytes) -> Iterator[str]:

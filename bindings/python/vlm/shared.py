@@ -1,16 +1,17 @@
 """A lock manager that threads share: the library's layer for threads."""
 
+import os
 import threading
 import weakref
 from ctypes import byref, c_int, c_uint32, c_void_p
 from dataclasses import dataclass
 from types import TracebackType
-from typing import Any, Callable, Dict, List, Optional, Tuple, Type, TypeVar, Union
+from typing import Any, Callable, Dict, List, NoReturn, Optional, Tuple, Type, TypeVar, Union
 
 from . import _library as raw
 from ._arguments import mark, word
 from ._asks import milliseconds
-from ._contexts import forget, keep, printed, read, told_deadlock, told_wait
+from ._contexts import forget, keep, printed, read, replace, told_deadlock, told_wait
 from ._words import options
 from .clients import Client
 from .errors import BadParamError, ClosedError, checked
@@ -80,13 +81,20 @@ def _wait_of(words: raw.Sized) -> Wait:
                 _sentence("wait", words))
 
 
-def _close(layer: c_void_p, hooks: int) -> None:
-    """Frees a layer that nobody can call any more."""
+def _age(time: Optional[float]) -> int:
+    """The milliseconds of an age, at most the longest that there is; 0 without one."""
+    return 0 if time is None else milliseconds(time) or (1 << 32) - 1
+
+
+def _close(layer: c_void_p, hooks: int, owner: int) -> None:
+    """Frees a layer that nobody can call any more. In a forked child it is the parent's."""
+    if os.getpid() != owner:
+        return
     if raw.LIBRARY.vlm_threads_close(layer) == Condition.NORMAL:
         forget(hooks)
     else:
         # (a routine of the layer had the last name of it, and the close waits for that routine)
-        threading.Thread(target=_close, args=(layer, hooks), daemon=True).start()
+        threading.Thread(target=_close, args=(layer, hooks, owner), daemon=True).start()
 
 
 class Shared:
@@ -105,18 +113,26 @@ class Shared:
         victim ends, and `on_long_wait` once for each wait that is longer than `long_wait`. Both may make calls."""
         self.is_by_program, self._is_closed = by_program, False
         words = raw.ThreadsOptions(delivery=mark(by_program), search_milliseconds=milliseconds(search_every),
-                                   victim_milliseconds=milliseconds(victims_after), has_keys=1,
+                                   victim_milliseconds=_age(victims_after), has_keys=1,
                                    long_milliseconds=milliseconds(long_wait))
         words.keys[:] = options(keys).keys
-        hooks = words.deadlock_context = words.long_wait_context = keep(_Hooks(on_deadlock, on_long_wait))
+        self._hooks = hooks = words.deadlock_context = words.long_wait_context = keep(_Hooks(on_deadlock, on_long_wait))
         if on_deadlock is not None:
             words.deadlock = told_deadlock
         if on_long_wait is not None:
             words.long_wait = told_wait
         self._layer = c_void_p()
-        checked(raw.LIBRARY.vlm_threads_open(words, byref(self._layer)))
+        try:
+            checked(raw.LIBRARY.vlm_threads_open(words, byref(self._layer)))
+        except BaseException:
+            forget(hooks)
+            raise
         # (at the end of the program a thread may still be in a call, so nothing is freed then)
-        weakref.finalize(self, _close, self._layer, hooks).atexit = False
+        weakref.finalize(self, _close, self._layer, hooks, os.getpid()).atexit = False
+
+    def __reduce__(self) -> NoReturn:
+        """There are no copies: the memory goes with the one that was opened."""
+        raise TypeError("a Shared can't be copied or pickled")
 
     def __repr__(self) -> str:
         if self._is_closed:
@@ -140,6 +156,8 @@ class Shared:
             if self.is_by_program:
                 self.dispatch()
             self._is_closed = True
+            # (a hook may be a method of what has this)
+            replace(self._hooks, _Hooks(None, None))
 
     @property
     def is_closed(self) -> bool:
@@ -167,7 +185,7 @@ class Shared:
         words.label[:len(text)] = text
         pid = c_uint32()
         checked(self._call("declare")(self._open_layer(), words, pid))
-        return Client(self, pid.value, own_queue)
+        return Client(self, pid.value)
 
     def leave(self, node: int) -> None:
         """A node departs, with all its processes. It stays departed."""
@@ -209,11 +227,16 @@ class Shared:
             except BaseException as error:
                 failed.append(error)
 
-        number = keep(run)
-        checked(self._call("look")(self._open_layer(), read, number))
-        forget(number)
+        layer, number = self._open_layer(), keep(run)
+        try:
+            checked(self._call("look")(layer, read, number))
+        finally:
+            forget(number)
         if failed:
             raise failed[0]
+        if not told:
+            # (it came before `run` began, and the caller of `run` printed it)
+            raise KeyboardInterrupt
         return told[0]
 
     def _counters(self) -> raw.Sized:
