@@ -281,8 +281,8 @@ class Threads(unittest.TestCase):
         kept = [Shared()]
         child = os.fork()
         if not child:
-            LIBRARY.vlm_threads_close = lambda layer: os._exit(1)
-            kept.clear()
+            LIBRARY.vlm_threads_close = LIBRARY.vlm_threads_stop = lambda layer: os._exit(1)
+            kept.pop().close()
             os._exit(0)
         self.assertEqual(os.waitpid(child, 0)[1], 0)
 

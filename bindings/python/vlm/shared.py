@@ -111,7 +111,7 @@ class Shared:
         `search_every` is the time between two searches for deadlocks, while a request waits; without it only `search`
         searches. A request that has waited less than `victims_after` is no victim. `on_deadlock` is called before a
         victim ends, and `on_long_wait` once for each wait that is longer than `long_wait`. Both may make calls."""
-        self.is_by_program, self._is_closed = by_program, False
+        self.is_by_program, self._is_closed, self._owner = by_program, False, os.getpid()
         words = raw.ThreadsOptions(delivery=mark(by_program), search_milliseconds=milliseconds(search_every),
                                    victim_milliseconds=_age(victims_after), has_keys=1,
                                    long_milliseconds=milliseconds(long_wait))
@@ -128,7 +128,7 @@ class Shared:
             forget(hooks)
             raise
         # (at the end of the program a thread may still be in a call, so nothing is freed then)
-        weakref.finalize(self, _close, self._layer, hooks, os.getpid()).atexit = False
+        weakref.finalize(self, _close, self._layer, hooks, self._owner).atexit = False
 
     def __reduce__(self) -> NoReturn:
         """There are no copies: the memory goes with the one that was opened."""
@@ -150,14 +150,16 @@ class Shared:
 
     def close(self) -> None:
         """Ends all processes: waits raise DepartedError, and later calls ClosedError. A second call does nothing. The
-        memory is freed with the last reference."""
-        if not self._is_closed:
+        memory is freed with the last reference. A forked child ends nothing, since the processes are its parent's."""
+        if self._is_closed:
+            return
+        if os.getpid() == self._owner:
             self._call("stop")(self._open_layer())
             if self.is_by_program:
                 self.dispatch()
-            self._is_closed = True
-            # (a hook may be a method of what has this)
-            replace(self._hooks, _Hooks(None, None))
+        self._is_closed = True
+        # (a hook may be a method of what has this)
+        replace(self._hooks, _Hooks(None, None))
 
     @property
     def is_closed(self) -> bool:
