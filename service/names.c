@@ -7,7 +7,7 @@
 #include <stdlib.h>
 #include <string.h>
 
-enum { LINE = 512, WORDS = 5, NEEDED = 3, FIRST_ROOM = 16, TEXT = LINE + 128 };
+enum { LINE = 4096, WORDS = 5, NEEDED = 3, FIRST_ROOM = 16, TEXT = LINE + 128 };
 
 /* KEY=N, where N is `most` at most. */
 static bool keyed_number(const char *word, const char *key, unsigned long most, uint32_t *number) {

@@ -422,7 +422,7 @@ def two_heaps(compiler, _program):
 
 def shown_by_man(*words):
     """What man prints, and what is wrong: it ends badly, or warns."""
-    env = {**os.environ, "MANPATH": str(prefix() / "share" / "man"), "MANWIDTH": "100"}
+    env = {**os.environ, "MANPATH": str(prefix() / "share" / "man"), "MANWIDTH": "80"}
     ended = subprocess.run(["man", "--warnings", *words], capture_output=True, text=True, timeout=SECONDS, env=env)
     return ended.stdout, list(difference((ended.returncode, ended.stderr), (0, "")))
 

@@ -14,7 +14,7 @@ from pathlib import Path
 from libraries import TLS_LIBRARY, fits_of
 from packages import write_packages
 from project import MISSING, TOP, UNANSWERED, fail
-from staging import DOCUMENTS, names_in
+from staging import DOCUMENTS, names_in, set_modes
 
 PACKAGING = TOP / "packaging"
 PYTHON = TOP / "bindings" / "python"
@@ -158,8 +158,7 @@ class Maker:
         if programs:
             ran("dpkg-shlibdeps", f"-T{substitutes}", f"-xlibvlm{fits_of(self.version)}", *needed,
                 *["-dRecommends"] * bool(optional), *optional, folder=room)
-        for folder_of_tree in sorted(it for it in tree.rglob("*") if it.is_dir()):
-            folder_of_tree.chmod(0o755)
+        set_modes(tree)
         write(tree / "DEBIAN" / "md5sums", sums_of(tree).encode())
         ran("dpkg-gencontrol", f"-p{package}", f"-P{tree}", f"-T{substitutes}", f"-f{room}/files", "-cdebian/control",
             "-ldebian/changelog", folder=room)

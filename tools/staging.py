@@ -1,6 +1,7 @@
 """Makes the files of an installation in a folder: what `./vlm install` puts into PREFIX, and what packages are made
 of."""
 
+import os
 import shutil
 import subprocess
 
@@ -81,6 +82,14 @@ def make_files(made, program, archive, version=VERSION):
     listed = made / "share" / "vlm" / "files"
     listed.touch()
     listed.write_text("".join(f"{name}\n" for name in names_in(made)))
+    set_modes(made)
+
+
+def set_modes(folder):
+    """Gives files and folders the usual modes: the clone of a user whose umask is another one has others."""
+    for it in folder.rglob("*"):
+        if not it.is_symlink():
+            it.chmod(0o755 if it.is_dir() or os.access(it, os.X_OK) else 0o644)
 
 
 def names_in(folder):

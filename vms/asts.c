@@ -92,7 +92,11 @@ ANY_ROUTINE static void run_first(void) {
         free(ast);
     is_running = is_in_routine = true;
     vms_unlock();
+    int before;
+    /* (a thread that ended in the routine would seem to run it for ever) */
+    pthread_setcancelstate(PTHREAD_CANCEL_DISABLE, &before);
     ((void (*)(VMS$PARAMETER))routine)(parameter);
+    pthread_setcancelstate(before, NULL);
     vms_lock();
     is_running = is_in_routine = false;
     vms_changed();

@@ -28,7 +28,7 @@ static struct lock *next_of(const struct dequeue *dequeue, const struct lock *lo
 static void mark(struct lock *lock, const struct dequeue *dequeue) {
     lock->going = dequeue->number;
     lock->is_given_up = (dequeue->flags & LCK$M_CANCEL) == 0;
-    lock->is_held_back = lock->is_given_up && lock->warning.is_queued;
+    lock->is_held_back = lock->is_given_up && (lock->warning.is_queued || lock->is_held_back);
     if (lock->is_given_up)
         vms_unqueue_ast(&lock->warning);
 }
@@ -60,9 +60,11 @@ static void settle(const struct dequeue *dequeue, bool is_kept) {
             continue;
         lock->going = 0;
         lock->is_given_up = false;
+        bool is_held_back = lock->is_held_back;
+        lock->is_held_back = false;
         if (!is_kept && lock->pending == NULL)
             vms_remove_lock(lock);
-        else if (lock->is_held_back)
+        else if (is_held_back)
             vms_warn(lock);
     }
     vms_unlock();
@@ -74,14 +76,15 @@ static uint32_t give_up(const struct engine *engine, struct dequeue *dequeue, co
                                  .lock = dequeue->lkid,
                                  .value = value,
                                  .wide = (dequeue->flags & LCK$M_XVALBLK) != 0};
-    vms_begin_dequeue(is_all(dequeue));
+    /* (the lock may have its next request only when the one that is cancelled has ended) */
+    vms_begin_dequeue(is_all(dequeue) || (dequeue->flags & LCK$M_CANCEL) != 0);
     begin(dequeue);
     uint32_t status = engine->deq(&words);
-    vms_end_dequeue();
     if (status == VLM_NORMAL)
         vms_await(are_ended, dequeue);
     /* (a lock that is not there has been given up by another thread) */
     settle(dequeue, status == VLM_NORMAL ? (dequeue->flags & LCK$M_CANCEL) != 0 : status != VLM_IVLOCKID);
+    vms_end_dequeue();
     return vms_condition(status);
 }
 

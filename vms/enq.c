@@ -69,6 +69,8 @@ static uint32_t check(const struct asked *asked) {
         return status;
     if (asked->block == NULL || (asked->name == NULL && !asked->is_conversion))
         return SS$_ACCVIO;
+    if (!asked->is_conversion && asked->name->dsc$a_pointer == NULL && asked->name->dsc$w_length != 0)
+        return SS$_ACCVIO;
     if ((rest & UNSUPPORTED_FLAGS) != 0)
         return SS$_UNSUPPORTED;
     return rest != 0 || asked->mode > LCK$K_EXMODE ? SS$_BADPARAM : SS$_NORMAL;
@@ -228,6 +230,11 @@ static void note(struct request *request, const vlm_threads_request *words, uint
     vms_unlock();
 }
 
+/* The bytes of a name. An empty string may have no address, and a request without an address is a conversion. */
+static const uint8_t *bytes_of(const struct dsc$descriptor_s *name) {
+    return (const uint8_t *)(name->dsc$a_pointer != NULL ? name->dsc$a_pointer : "");
+}
+
 /* Makes a request: SS$_NORMAL, SS$_SYNCH, or a refusal. */
 static uint32_t make(const struct engine *engine, const struct asked *asked, struct request *request) {
     uint8_t value[WHOLE_VALUE];
@@ -244,9 +251,8 @@ static uint32_t make(const struct engine *engine, const struct asked *asked, str
     pthread_rwlock_rdlock(&making);
     begin(request);
     words.blocking_context = (void *)(uintptr_t)request->grant;
-    uint32_t status = asked->is_conversion
-                          ? engine->ask(&words, NULL, 0)
-                          : engine->ask(&words, (const uint8_t *)asked->name->dsc$a_pointer, asked->name->dsc$w_length);
+    uint32_t status = asked->is_conversion ? engine->ask(&words, NULL, 0)
+                                           : engine->ask(&words, bytes_of(asked->name), asked->name->dsc$w_length);
     note(request, &words, status);
     pthread_rwlock_unlock(&making);
     if (status == VLM_SYNCH)

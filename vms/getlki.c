@@ -115,12 +115,9 @@ static uint32_t read_items(const struct engine *engine, const struct reading *re
     return status;
 }
 
-static uint32_t read_lock(uint32_t *lkid, const ILE3 *items) {
-    const struct engine *engine;
+static uint32_t read_lock(const struct engine *engine, uint32_t *lkid, const ILE3 *items) {
     struct reading reading = {0};
-    uint32_t status = vms_open(&engine);
-    if (status == SS$_NORMAL)
-        status = read_named(engine, lkid, &reading);
+    uint32_t status = read_named(engine, lkid, &reading);
     return status == SS$_NORMAL ? read_items(engine, &reading, items) : status;
 }
 
@@ -144,11 +141,15 @@ int sys$getlki(unsigned int efn, unsigned int *lkidadr, void *itmlst, void *iosb
         return (int)status;
     if (lkidadr == NULL || itmlst == NULL)
         return SS$_ACCVIO;
+    const struct engine *engine;
+    status = vms_open(&engine); /* (before the mutex is taken: in the child after a fork it may be taken for ever) */
+    if (status != SS$_NORMAL)
+        return (int)status;
     struct ast *ast = astadr != NULL ? vms_new_ast(astadr, astprm) : NULL;
     if (astadr != NULL && ast == NULL)
         return SS$_INSFMEM;
     vms_enter();
-    status = read_lock(lkidadr, itmlst);
+    status = read_lock(engine, lkidadr, itmlst);
     tell_end(efn, iosb, ast, status);
     return (int)status;
 }

@@ -118,9 +118,13 @@ static uint32_t await_readable(int descriptor, int64_t end) {
 /* Takes all rings of an eventfd that is readable. */
 static void take_rings(vlm_bell *bell) {
     uint64_t rings;
+    int before;
+    /* (a thread that ended in between would leave a bell that seems rung, and is not) */
+    pthread_setcancelstate(PTHREAD_CANCEL_DISABLE, &before);
     while (read(bell->descriptor, &rings, sizeof rings) < 0 && errno == EINTR)
         continue;
     __atomic_exchange_n(&bell->is_rung, 0, __ATOMIC_SEQ_CST);
+    pthread_setcancelstate(before, NULL);
 }
 
 uint32_t vlm_bell_wait(vlm_bell *bell, int milliseconds) {

@@ -96,11 +96,13 @@ def build_with_library(folder: str, version: str, tag: str, more: Dict[str, byte
 
 def build_sdist(sdist_directory: str, config_settings: Optional[Dict[str, Any]] = None) -> str:
     """Packs the sources, from which pip installs the package too."""
-    name = f"vlm-{_table('project')['version']}"
+    version = _table("project")["version"]
+    name = f"vlm-{version}"
+    content = {it: (HERE / it).read_bytes() for it in (*_package(), "pyproject.toml", "wheels.py", "README.md")}
+    content["PKG-INFO"] = _info_files(version)[f"{_info(version)}/METADATA"]
     with open(Path(sdist_directory) / f"{name}.tar.gz", "wb") as file, \
             gzip.GzipFile("", "wb", 9, file, _time()) as zipped, tarfile.open(fileobj=zipped, mode="w") as packed:
-        for path in (*_package(), "pyproject.toml", "wheels.py", "README.md"):
-            text = (HERE / path).read_bytes()
+        for path, text in content.items():
             member = tarfile.TarInfo(f"{name}/{path}")
             member.size, member.mtime = len(text), _time()
             packed.addfile(member, io.BytesIO(text))

@@ -3,6 +3,7 @@
 #include "link.h"
 
 #include <errno.h>
+#include <fcntl.h>
 #include <getopt.h>
 #include <netdb.h>
 #include <poll.h>
@@ -101,6 +102,17 @@ static bool is_greeted(struct link *link, int64_t until) {
     return is_heard && strncmp(line, greeting, strlen(greeting)) == 0;
 }
 
+/* A socket that is none of the standard streams. In the place of a closed one, the command of `vlm lock` would have it.
+ */
+static int make_socket(int family) {
+    int made = socket(family, SOCK_STREAM, 0);
+    if (made < 0 || made > STDERR_FILENO)
+        return made;
+    int moved = fcntl(made, F_DUPFD, STDERR_FILENO + 1);
+    close(made);
+    return moved;
+}
+
 static bool open_socket(struct link *link, const char *path) {
     struct sockaddr_un address = {.sun_family = AF_UNIX};
     if (strlen(path) >= sizeof address.sun_path) {
@@ -108,7 +120,7 @@ static bool open_socket(struct link *link, const char *path) {
         return false;
     }
     memcpy(address.sun_path, path, strlen(path));
-    link->channel = (struct channel){socket(AF_UNIX, SOCK_STREAM, 0), NULL};
+    link->channel = (struct channel){make_socket(AF_UNIX), NULL};
     if (link->channel.descriptor < 0
         || connect(link->channel.descriptor, (const struct sockaddr *)&address, sizeof address) != 0) {
         fprintf(stderr, "vlm: %s: %s: is vlmd running?\n", path, strerror(errno));
@@ -147,7 +159,7 @@ static bool open_host(struct link *link, const char *host, const char *port, str
         return false;
     for (const struct addrinfo *at = found; at != NULL && !is_open; at = at->ai_next) {
         link->len = 0;
-        link->channel = (struct channel){socket(at->ai_family, SOCK_STREAM, 0), NULL};
+        link->channel = (struct channel){make_socket(at->ai_family), NULL};
         /* (this limits how long connect waits, too) */
         setsockopt(link->channel.descriptor, SOL_SOCKET, SO_SNDTIMEO, &patience, sizeof patience);
         is_open = connect(link->channel.descriptor, at->ai_addr, at->ai_addrlen) == 0 && is_begun(link, host, asking);

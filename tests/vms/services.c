@@ -32,7 +32,7 @@
 #include <time.h>
 #include <unistd.h>
 
-enum { THREADS = 4, ROUNDS = 50, MANY = 40, WAIT = 3000, THOUSAND = 1000, MILLION = 1000000 };
+enum { THREADS = 4, ROUNDS = 50, MANY = 40, CANCELS = 4000, WAIT = 3000, THOUSAND = 1000, MILLION = 1000000 };
 
 #define CHECK(fact) check(fact, __LINE__, #fact)
 
@@ -117,12 +117,16 @@ static void test_arguments(void) {
 
 static void test_refusals(void) {
     LKSB held, waits, below, other = {.lksb$w_status = 77, .lksb$l_lkid = 99};
+    struct dsc$descriptor_s empty = {0, DSC$K_DTYPE_T, DSC$K_CLASS_D, NULL};
     CHECK(enqw(LCK$K_EXMODE, &held, 0, &name_a) == SS$_NORMAL && held.lksb$w_status == SS$_NORMAL);
     CHECK(enq(LCK$K_CRMODE, &other, LCK$M_NOQUEUE, &name_a) == SS$_NOTQUEUED && other.lksb$w_status == 77);
     CHECK(enq(LCK$K_CRMODE, &waits, 0, &name_a) == SS$_NORMAL && waits.lksb$w_status == 0 && waits.lksb$l_lkid != 0);
     CHECK(enq(LCK$K_NLMODE, &waits, LCK$M_CONVERT, NULL) == SS$_CVTUNGRANT);
     CHECK(sys$enq(1, 0, &other, 0, (void *)&name_b, waits.lksb$l_lkid, 0, 0, 0, 0, 0) == SS$_PARNOTGRANT);
     CHECK(sys$enqw(1, 0, &below, 0, (void *)&name_b, held.lksb$l_lkid, 0, 0, 0, 0, 0) == SS$_NORMAL);
+    CHECK(sys$enqw(1, 0, &other, 0, (void *)&empty, held.lksb$l_lkid, 0, 0, 0, 0, 0) == SS$_IVBUFLEN);
+    empty.dsc$w_length = 1;
+    CHECK(enqw(LCK$K_NLMODE, &other, 0, &empty) == SS$_ACCVIO);
     CHECK(deq(&held) == SS$_SUBLOCKS && sys$deq(held.lksb$l_lkid, 0, 0, LCK$M_CANCEL) == SS$_CANCELGRANT);
     CHECK(enq(LCK$K_CRMODE, &held, LCK$M_CONVERT | LCK$M_QUECVT, NULL) == SS$_BADPARAM);
     give_all_up();
@@ -424,12 +428,44 @@ static void test_threads(void) {
     CHECK(counted == THREADS * ROUNDS);
 }
 
+static LKSB converts;
+static atomic_bool is_over, has_ended;
+
+static void *convert_again(void *unused) {
+    (void)unused;
+    while (!is_over)
+        CHECK(enqw(LCK$K_EXMODE, &converts, LCK$M_CONVERT, NULL) == SS$_NORMAL && converts.lksb$w_status == SS$_CANCEL);
+    has_ended = true;
+    return NULL;
+}
+
+/* A lock whose conversion is cancelled converts again at once. A cancel waits for the end of the one that it meets. */
+static void test_cancels(void) {
+    LKSB held;
+    pthread_t thread;
+    CHECK(enqw(LCK$K_PRMODE, &held, 0, &name_a) == SS$_NORMAL && enqw(LCK$K_NLMODE, &converts, 0, &name_a) & 1);
+    unsigned int lkid = converts.lksb$l_lkid;
+    CHECK(pthread_create(&thread, NULL, convert_again, NULL) == 0);
+    for (int cancels = 0; cancels < CANCELS; cancels++) {
+        int status = sys$deq(lkid, 0, 0, LCK$M_CANCEL);
+        CHECK(status == SS$_NORMAL || status == SS$_CANCELGRANT);
+    }
+    is_over = true;
+    while (!has_ended)
+        sys$deq(lkid, 0, 0, LCK$M_CANCEL);
+    CHECK(pthread_join(thread, NULL) == 0);
+    give_all_up();
+}
+
 static void test_fork(void) {
     int status;
     pid_t child = fork();
     if (child == 0) {
         LKSB lksb;
-        _exit(enqw(LCK$K_EXMODE, &lksb, 0, &name_a) == SS$_UNSUPPORTED && deq(&lksb) == SS$_UNSUPPORTED ? 0 : 1);
+        const ILE3 items[] = {{0, 0, NULL, NULL}};
+        CHECK(enqw(LCK$K_EXMODE, &lksb, 0, &name_a) == SS$_UNSUPPORTED && deq(&lksb) == SS$_UNSUPPORTED);
+        CHECK(sys$getlkiw(2, &lksb.lksb$l_lkid, (void *)items, NULL, 0, 0, 0) == SS$_UNSUPPORTED);
+        _exit(0);
     }
     CHECK(waitpid(child, &status, 0) == child && WIFEXITED(status) && WEXITSTATUS(status) == 0);
 }
@@ -504,6 +540,32 @@ static void test_cancelled(void) {
     CHECK(waits.lksb$w_status == SS$_NORMAL && deq(&waits) == SS$_NORMAL);
 }
 
+static void complete_slowly(VMS$PARAMETER given) {
+    blockings++;
+    usleep(100 * THOUSAND);
+    complete(given);
+}
+
+static void *declare_slow_ast(void *unused) {
+    (void)unused;
+    sys$dclast((VMS$AST)complete_slowly, 1, 0);
+    pause();
+    return NULL;
+}
+
+/* So does one that is cancelled while its service runs a routine: that comes to its end. */
+static void test_cancelled_in_routine(void) {
+    pthread_t thread;
+    forget();
+    CHECK(pthread_create(&thread, NULL, declare_slow_ast, NULL) == 0);
+    while (blockings == 0)
+        usleep(THOUSAND);
+    CHECK(pthread_cancel(thread) == 0 && pthread_join(thread, NULL) == 0 && completions == 1);
+    CHECK(sys$dclast((VMS$AST)complete, 1, 0) == SS$_NORMAL);
+    while (completions == 1)
+        usleep(THOUSAND);
+}
+
 /* The allocation of this thread that is refused, counted down, or none. */
 static _Thread_local int refused = -1;
 
@@ -565,7 +627,9 @@ static void run_all(void) {
     test_walks();
     test_deadlock();
     test_threads();
+    test_cancels();
     test_cancelled();
+    test_cancelled_in_routine();
     test_fork();
 }
 

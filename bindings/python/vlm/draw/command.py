@@ -61,6 +61,8 @@ def _parser() -> argparse.ArgumentParser:
 
 
 def _read(name: str) -> bytes:
+    if name == "-" and sys.stdin is None:
+        raise Stopped(BROKEN, "read: standard input is closed")
     try:
         if name == "-":
             script = sys.stdin.buffer.read(LONGEST_SCRIPT + 1)
@@ -76,8 +78,11 @@ def _read(name: str) -> bytes:
 
 def _write(text: str, fault: Optional[str] = None) -> None:
     """Prints a text. The fault that ended the script comes after it."""
+    if sys.stdout is None:
+        raise Stopped(BROKEN, "write: standard output is closed")
     try:
-        sys.stdout.buffer.write(text.encode())
+        # (the name of a file may have other bytes than UTF-8)
+        sys.stdout.buffer.write(text.encode("utf-8", "replace"))
         sys.stdout.buffer.flush()
     except OSError:
         # What is left in the buffer would be written again at the end of the program.
