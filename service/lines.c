@@ -71,10 +71,11 @@ bool decimal(struct word word, uint64_t most, uint64_t *number) {
 
 /* The number of a line, up to 18 digits and a blank. Returns how many bytes it has; 0: the line has none. */
 static size_t read_number(const char *bytes, size_t len, uint64_t *number) {
-    size_t digits = 0;
-    *number = 0;
-    for (; digits < len && digits <= DIGITS && bytes[digits] >= '0' && bytes[digits] <= '9'; digits++)
-        *number = *number * 10 + (uint64_t)(bytes[digits] - '0');
+    size_t digits = 0, most = len <= DIGITS ? len : DIGITS + 1;
+    uint64_t read = 0;
+    for (unsigned digit; digits < most && (digit = (unsigned)bytes[digits] - '0') < 10; digits++)
+        read = read * 10 + digit;
+    *number = read;
     return digits > 0 && digits <= DIGITS && digits < len && bytes[digits] == ' ' ? digits + 1 : 0;
 }
 

@@ -87,7 +87,7 @@ void keep_step(struct client *client, uint32_t status, uint64_t given) {
     step->status = status;
     step->line_len = (uint32_t)client->line_len;
     memcpy(step->line, client->line, client->line_len);
-    session->next_step = (session->next_step + 1) % most_steps(session);
+    session->next_step = session->next_step + 1 < most_steps(session) ? session->next_step + 1 : 0;
 }
 
 void free_steps(struct session *session) {
