@@ -195,7 +195,7 @@ static bool find_rights(const struct listener *listener, int descriptor, struct 
 }
 
 bool let_in(struct connection *connection, const struct rights *rights) {
-    /* (no session of an earlier daemon, or of another replica, has the name of one of this connection) */
+    /* (so no session has the name that one of an earlier daemon had; the first epoch has no earlier daemon) */
     bool has_salt = vlmd.replica != NULL || dispatcher_epoch(vlmd.dispatcher) != 0;
     uint32_t salt = 0;
     if (has_salt && getrandom(&salt, sizeof salt, 0) != sizeof salt)

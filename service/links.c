@@ -24,8 +24,8 @@ struct link {
     uint64_t beat;  /* the one that its `alive` waits for, or 0 */
     uint64_t turn;  /* in which it has run lines last, and how many */
     uint32_t readings;
-    uint64_t batch; /* the replica's last one that had lines of this client; how many of them no line has followed */
-    uint32_t answered;
+    uint64_t batch;    /* the replica's newest one when a line of this client ran last */
+    uint32_t answered; /* lines that have run since it was made, less those that the client has sent after them */
     struct bytes in;
     size_t from;   /* the bytes before it have become lines */
     bool is_ended; /* no more bytes come */
@@ -89,6 +89,8 @@ struct client *link_client(const struct link *link) {
 
 void link_close(struct link *link) {
     struct replica *replica = link->replica;
+    if (link->batch == replica->batches)
+        replica->expected -= link->answered < replica->expected ? link->answered : replica->expected;
     if (link->client != NULL)
         client_detach(link->client);
     entry_begin(&replica->next, ENTRY_LEFT, 4);

@@ -153,8 +153,7 @@ void client_sent(struct client *client, size_t len) {
     bool was_paused = unsent(client) > PAUSE;
     client->out_from += len;
     client->user->queued -= len;
-    if (client->out_long > unsent(client))
-        client->out_long = unsent(client);
+    client->out_long -= len < client->out_long ? len : client->out_long;
     if (client->out_from == client->out_len) {
         client->out_from = client->out_len = 0;
         if (client->out_room > KEPT_ROOM) {

@@ -148,8 +148,8 @@ struct client {
     size_t in_from, in_len, in_room;
     uint8_t *out;
     size_t out_from, out_len, out_room;
-    size_t out_long;        /* unsent bytes that are allowed beside MOST_UNSENT: a long answer is among them */
-    bool is_told_at_length; /* an answer that `shown` alone limits */
+    size_t out_long;        /* unsent bytes up to the end of the last long answer: MOST_UNSENT does not count them */
+    bool is_told_at_length; /* a long answer is being put: `queued` limits it, and MOST_UNSENT does not */
     /* The line that is run. */
     const char *line; /* without its number */
     size_t line_len;

@@ -37,6 +37,8 @@ static void tell_blocker(struct walk *walk, const vlm_lock *lock) {
     struct dispatcher *dispatcher = walk->client->dispatcher;
     vlm_lock blocker = {.size = sizeof blocker};
     walk->passed += walk->rows;
+    if (lock->queue != VLM_GRANTED && walk->passed <= MOST_PASSED)
+        dispatcher->walked += walk->rows;
     if (lock->queue == VLM_GRANTED)
         put_text(walk->client, " -\n");
     else if (walk->passed > MOST_PASSED || vlm_first_blocker(&dispatcher->manager, lock->lkid, &blocker) != VLM_NORMAL

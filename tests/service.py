@@ -272,9 +272,9 @@ def limits(_program):
             with daemon.client(), daemon.client(), daemon.client() as fifth:
                 yield from difference((fifth.line(), fifth.line()), ("too many connections", None))
     with Daemon("connections 2") as daemon:
-        for wanted in ("session", "session", "too"):
+        for wanted in ("session ", "session ", "too many sessions"):
             with daemon.client() as client:
-                yield from difference(client.ask("open seconds=60").split()[0], wanted)
+                yield from difference(client.ask("open seconds=60")[:len(wanted)], wanted)
 
 
 def shown(_program):

@@ -97,9 +97,11 @@ def statuses(_program):
         yield from difference(holder.wait(20), 143)
         yield from difference(holds(daemon, 0), True)
         # (without a standard output, what the command prints does not go to the daemon)
-        talks = start(daemon, "lock", "A", "sh", "-c", "echo end P; sleep 1", preexec_fn=partial(os.close, 1))
+        talks = start(daemon, "lock", "A", "sh", "-c", "echo end P; read x", stdin=subprocess.PIPE,
+                      preexec_fn=partial(os.close, 1))
         holds(daemon)
         yield from difference(run(daemon, "lock", "-n", "A", "true")[0], 1)
+        print(file=talks.stdin, flush=True)
         yield from difference(talks.wait(20), 0)
         # (its parent may have ignored the ends of children)
         ignoring = partial(signal.signal, signal.SIGCHLD, signal.SIG_IGN)

@@ -76,7 +76,6 @@ static uint32_t give_up(const struct engine *engine, struct dequeue *dequeue, co
                                  .lock = dequeue->lkid,
                                  .value = value,
                                  .wide = (dequeue->flags & LCK$M_XVALBLK) != 0};
-    /* (the lock may have its next request only when the one that is cancelled has ended) */
     vms_begin_dequeue(is_all(dequeue) || (dequeue->flags & LCK$M_CANCEL) != 0);
     begin(dequeue);
     uint32_t status = engine->deq(&words);

@@ -13,15 +13,15 @@
 #include <stdlib.h>
 #include <string.h>
 
-/* Requests and dequeues of one lock are readers of this lock, and a dequeue of many is its writer: no new lock that it
- * gives up is without its record then. */
+/* Requests and dequeues of one lock are readers of this lock. A dequeue of many is its writer, so that no new lock that
+ * it gives up is without its record. So is a cancel, so that its lock has no next request before the end of this one. */
 static pthread_rwlock_t making = PTHREAD_RWLOCK_WRITER_NONRECURSIVE_INITIALIZER_NP;
 /* Guarded by the mutex. */
 static struct request *called; /* those that the lock manager below is being asked for */
 static uint64_t grants;
 
-void vms_begin_dequeue(bool is_all) {
-    if (is_all)
+void vms_begin_dequeue(bool is_alone) {
+    if (is_alone)
         pthread_rwlock_wrlock(&making);
     else
         pthread_rwlock_rdlock(&making);

@@ -161,9 +161,9 @@ void vms_remove_lock(struct lock *lock);
 bool vms_is_below(const struct lock *lock, uint32_t lkid);
 void vms_warn(struct lock *lock);
 
-/* enq.c. A dequeue of many locks keeps requests from being made, from vms_begin_dequeue to vms_end_dequeue. Both want
- * the mutex not held. */
-void vms_begin_dequeue(bool is_all);
+/* enq.c. From vms_begin_dequeue to vms_end_dequeue no request is made if the dequeue is alone, as one of many locks or a
+ * cancel is. Both want the mutex not held. */
+void vms_begin_dequeue(bool is_alone);
 void vms_end_dequeue(void);
 
 /* items.c: writes an item of a lock into a buffer. *written is how many bytes, *whole how many there are, and *each how

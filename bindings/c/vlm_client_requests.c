@@ -343,7 +343,7 @@ static bool is_valid_dequeue(const vlm_threads_dequeue *dequeue) {
     return dequeue->size == sizeof *dequeue && dequeue->flags <= MOST_BITS && dequeue->wide <= 1;
 }
 
-/* Whether a granted lock is below another one of its process, or that is 0. Trees have at most 16 levels. */
+/* Whether a granted lock is below a lock of the same process. All are below 0. Trees have at most 16 levels. */
 static bool is_below(const vlm_client *client, const struct record *record, uint32_t lock) {
     uint32_t above = record->parent;
     while (lock != 0 && above != 0 && above != lock) {

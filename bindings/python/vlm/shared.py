@@ -237,7 +237,7 @@ class Shared:
         if failed:
             raise failed[0]
         if not told:
-            # (it came before `run` began, and the caller of `run` printed it)
+            # (`run` was interrupted before it began: ctypes, which called it, has printed that and gone on)
             raise KeyboardInterrupt
         return told[0]
 
