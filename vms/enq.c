@@ -14,7 +14,7 @@
 #include <string.h>
 
 /* Requests and dequeues of one lock are readers of this lock. A dequeue of many is its writer, so that no new lock that
- * it gives up is without its record. So is a cancel, so that its lock has no next request before the end of this one. */
+ * it gives up is without its record. So is a cancel: its lock gets no next request before the end of this one. */
 static pthread_rwlock_t making = PTHREAD_RWLOCK_WRITER_NONRECURSIVE_INITIALIZER_NP;
 /* Guarded by the mutex. */
 static struct request *called; /* those that the lock manager below is being asked for */

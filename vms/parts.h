@@ -161,8 +161,8 @@ void vms_remove_lock(struct lock *lock);
 bool vms_is_below(const struct lock *lock, uint32_t lkid);
 void vms_warn(struct lock *lock);
 
-/* enq.c. From vms_begin_dequeue to vms_end_dequeue no request is made if the dequeue is alone, as one of many locks or a
- * cancel is. Both want the mutex not held. */
+/* enq.c. From vms_begin_dequeue to vms_end_dequeue no request is made if the dequeue is alone: one of many locks, or a
+ * cancel. Both want the mutex not held. */
 void vms_begin_dequeue(bool is_alone);
 void vms_end_dequeue(void);
 
