@@ -135,8 +135,8 @@ static uint32_t lkid_of(const struct dispatcher *dispatcher, uint64_t handle) {
     return handle == 0 ? 0 : handle >> 32 == dispatcher->epoch && (uint32_t)handle != 0 ? (uint32_t)handle : NO_LOCK;
 }
 
-/* The word of a line that may be a handle: the third of `cvt` and `deq`, and what follows `parent=` in `enq`. (No name of
- * a process begins so.) `rest` is what follows the first word. */
+/* The word of a line that may be a handle: the third of `cvt` and `deq`, and what follows `parent=` in `enq`, where no
+ * name of a process has that. `rest` is what follows the first word. */
 static bool find_handle(struct word command, struct word rest, struct word *handle) {
     if (is_word(command, "enq")) {
         /* (most lines have no parent, and need no second reading of their words) */
