@@ -65,7 +65,8 @@ class Packages(unittest.TestCase):
         needed = {"pyproject.toml", "wheels.py", "README.md", "vlm/__init__.py", "vlm/draw/page.css"}
         names = {it.relative_to(left).as_posix() for it in left.rglob("*") if it.is_file()}
         self.assertLessEqual(needed, names)
-        for name in names:
+        self.assertTrue((left / "PKG-INFO").read_bytes().startswith(b"Metadata-Version: "))
+        for name in names - {"PKG-INFO"}:
             self.assertEqual((left / name).read_bytes(), (FOLDER / name).read_bytes())
 
 
