@@ -230,7 +230,7 @@ void client_close(struct client *client) {
         dispatcher->clients = client->next;
     if (client->next != NULL)
         client->next->previous = client->previous;
-    client->user->queued -= client->out_len - client->out_from;
+    client->user->queued -= unsent(client);
     client->user->connections--;
     drop_user(dispatcher, client->user);
     dispatcher->connections--;

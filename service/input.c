@@ -36,7 +36,7 @@ static void drop(struct client *client, size_t len) {
 }
 
 static bool may_run(const struct client *client) {
-    return !client->is_over && !client->is_waiting && client->out_len - client->out_from <= PAUSE;
+    return !client->is_over && !client->is_waiting && unsent(client) <= PAUSE;
 }
 
 /* Runs whole lines, as many as a turn allows, and returns how many bytes they had. */
@@ -82,8 +82,7 @@ static void note_excess(struct client *client) {
 
 /* Once no more comes and all lines have run, the client is over. */
 static void end_if_done(struct client *client) {
-    if (client->is_ended && !client->is_ready && !client->is_waiting && !client->is_over
-        && client->out_len - client->out_from <= PAUSE)
+    if (client->is_ended && !client->is_ready && !client->is_waiting && !client->is_over && unsent(client) <= PAUSE)
         client_end(client);
 }
 
@@ -113,6 +112,5 @@ void run_heard(struct client *client) {
 }
 
 bool client_is_heard(const struct client *client) {
-    return !client->is_over && !client->is_ended && !client->is_ready && !client->is_waiting
-           && client->out_len - client->out_from <= PAUSE;
+    return !client->is_over && !client->is_ended && !client->is_ready && !client->is_waiting && unsent(client) <= PAUSE;
 }

@@ -39,7 +39,7 @@ static void cut_off(struct client *client, const char *reason) {
         client->rights.uid, reason);
 }
 
-static size_t unsent(const struct client *client) { return client->out_len - client->out_from; }
+size_t unsent(const struct client *client) { return client->out_len - client->out_from; }
 
 static bool make_room(struct client *client, size_t len) {
     if (client->out_len + len <= client->out_room)

@@ -321,6 +321,7 @@ void lose_lock_holders(struct dispatcher *dispatcher);
 uint64_t handle_of(const struct dispatcher *dispatcher, uint32_t lkid);
 
 /* output.c */
+size_t unsent(const struct client *client);
 void note_change(struct client *client);
 void put(struct client *client, const void *bytes, size_t len);
 void put_text(struct client *client, const char *text);

@@ -10,7 +10,7 @@ from . import _library as raw
 from ._arguments import seconds
 from ._contexts import Call, Context, forget, give
 from .errors import ClosedError, checked
-from .values import Condition, Event, Flags
+from .values import Condition, DequeueFlags, Event, Flags
 
 if TYPE_CHECKING:
     import asyncio
@@ -102,7 +102,7 @@ class Asked:
         """The answer to a request that ended so; without an event its process did."""
         if event is None:
             # (a call for the process is answered how that ended)
-            return self._deq(self.words.lkid, 2)
+            return self._deq(self.words.lkid, DequeueFlags.CANCEL)
         status = self.words.status = int(event.status or 0)
         self.value[:] = (event.value or bytes(16)) + (event.tail or bytes(48))
         return _NORMAL if status in GRANTS else status
@@ -116,7 +116,7 @@ class Asked:
 
     def cancel(self) -> bool:
         """Cancels the request: whether it has not been granted."""
-        return self._deq(self.words.lkid, 2) != Condition.CANCELGRANT
+        return self._deq(self.words.lkid, DequeueFlags.CANCEL) != Condition.CANCELGRANT
 
     def undo(self) -> None:
         """Cancels the request. A new lock that was granted meanwhile is given up."""
@@ -126,14 +126,14 @@ class Asked:
     def give_up(self) -> None:
         """Gives up a new lock, if it was granted."""
         if self.name is not None and self.words.lkid:
-            self._deq(self.words.lkid, 0)
+            self._deq(self.words.lkid, DequeueFlags.NONE)
 
     def cancel_wait(self) -> None:
         """Cancels the request for which another thread waits in the library, if it waits already."""
         shared, lock = self.client.shared, c_uint32()
         shared._call("lkid")(shared._layer, self.words, lock)
         if lock.value:
-            self._deq(lock.value, 2)
+            self._deq(lock.value, DequeueFlags.CANCEL)
 
 
 class Waiting:

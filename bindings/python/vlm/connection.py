@@ -191,6 +191,7 @@ class Connection:
         return number
 
     def forget(self, number: int) -> None:
+        """C uses this number no more."""
         self._routines.pop(number, None)
 
     def _run(self, context: int, event: Any) -> None:
@@ -291,6 +292,7 @@ class ServedProcess:
         return number
 
     def forget(self, number: int) -> None:
+        """C uses this number no more."""
         self._routines.discard(number)
         self.connection.forget(number)
 

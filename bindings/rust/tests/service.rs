@@ -53,6 +53,11 @@ impl Daemon {
         Some(Daemon { folder, child })
     }
 
+    /// Two connections, which hear of no loss.
+    fn connections(&self) -> (Connection, Connection) {
+        (self.connection(|| ()), self.connection(|| ()))
+    }
+
     fn connection(&self, on_lost: impl FnMut() + Send + Clone + 'static) -> Connection {
         let end = Instant::now() + LONG;
         loop {
@@ -131,7 +136,7 @@ fn locks_exclude_each_other_and_hand_values_over() {
     let Some(daemon) = Daemon::new("locks") else {
         return;
     };
-    let (one, other) = (daemon.connection(|| ()), daemon.connection(|| ()));
+    let (one, other) = daemon.connections();
     let (p, q) = (one.declare(9, 2).unwrap(), other.declare(9, 2).unwrap());
     let keeper = one.lock(p, b"A", Mode::Nl).unwrap();
     let mut guard = one.lock(p, b"A", Mode::Ex).unwrap();
@@ -167,7 +172,7 @@ fn tokens_rise_with_grants() {
     let Some(daemon) = Daemon::new("tokens") else {
         return;
     };
-    let (one, other) = (daemon.connection(|| ()), daemon.connection(|| ()));
+    let (one, other) = daemon.connections();
     let (p, q) = (one.declare(9, 2).unwrap(), other.declare(9, 2).unwrap());
     let mut guard = one.lock(p, b"A", Mode::Ex).unwrap();
     let first = guard.token().unwrap();
@@ -192,7 +197,7 @@ fn routines_are_called_by_a_delivery() {
     let Some(daemon) = Daemon::new("routines") else {
         return;
     };
-    let (one, other) = (daemon.connection(|| ()), daemon.connection(|| ()));
+    let (one, other) = daemon.connections();
     let (p, q) = (one.declare(9, 2).unwrap(), other.declare(9, 2).unwrap());
     let (told, events) = channel();
     let warned = told.clone();
@@ -359,7 +364,7 @@ fn closures_go_with_their_process_and_their_connection() {
     let Some(daemon) = Daemon::new("closures") else {
         return;
     };
-    let (one, other) = (daemon.connection(|| ()), daemon.connection(|| ()));
+    let (one, other) = daemon.connections();
     let [p, q, r] = [&one, &other, &other].map(|it| it.declare(9, 2).unwrap());
     let _held = one.lock(p, b"A", Mode::Ex).unwrap();
     let started = |process| {
@@ -408,7 +413,7 @@ fn a_panic_of_a_drop_goes_on_from_its_call() {
     let Some(daemon) = Daemon::new("bombs") else {
         return;
     };
-    let (one, other) = (daemon.connection(|| ()), daemon.connection(|| ()));
+    let (one, other) = daemon.connections();
     let (p, q) = (one.declare(9, 9).unwrap(), one.declare(9, 9).unwrap());
     let start = |process, name, terms| one.start(process, name, Mode::Ex, terms, with_bomb());
     assert!(start(p, b"A", Terms::new()).is_ok());

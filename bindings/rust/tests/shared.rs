@@ -2,7 +2,7 @@
 
 use std::time::Duration;
 
-use vlm::{Client, EnqFlags, Error, LockId, Mode, Options, ProcessId, Shared, Terms};
+use vlm::{Client, EnqFlags, Error, Guard, LockId, Mode, Options, ProcessId, Shared, Terms};
 
 const NOBODY: ProcessId = ProcessId(12345);
 
@@ -34,7 +34,7 @@ fn resources(shared: &Shared) -> usize {
 fn shared_and_guards_go_between_threads() {
     fn goes<T: Send + Sync>() {}
     goes::<Shared>();
-    goes::<vlm::Guard>();
+    goes::<Guard>();
 }
 
 #[test]
@@ -183,13 +183,19 @@ fn a_guard_of_a_lock_with_sublocks_is_refused() {
     assert_eq!(resources(&shared), 0);
 }
 
+/// A sublock whose parent's guard is gone.
+fn orphan(shared: &Shared, process: ProcessId) -> Guard {
+    let parent = shared.lock(process, b"A", Mode::Nl).expect("a lock");
+    let below = Terms::new().below(&parent);
+    shared
+        .lock_with(process, b"B", Mode::Ex, below)
+        .expect("a lock")
+}
+
 #[test]
 fn a_child_guard_keeps_its_parent() {
     let (shared, p, _) = two();
-    let parent = shared.lock(p, b"A", Mode::Nl).expect("a lock");
-    let below = Terms::new().below(&parent);
-    let child = shared.lock_with(p, b"B", Mode::Ex, below).expect("a lock");
-    drop(parent);
+    let child = orphan(&shared, p);
     assert_eq!(resources(&shared), 2);
     drop(child);
     assert_eq!(resources(&shared), 0);
@@ -203,10 +209,7 @@ fn a_child_guard_keeps_its_parent() {
 #[test]
 fn a_kept_sublock_keeps_its_parent() {
     let (shared, p, _) = two();
-    let parent = shared.lock(p, b"A", Mode::Nl).expect("a lock");
-    let below = Terms::new().below(&parent);
-    let child = shared.lock_with(p, b"B", Mode::Ex, below).expect("a lock");
-    drop(parent);
+    let child = orphan(&shared, p);
     let kept = child.keep();
     let parent = shared.look(|manager| manager.lock(kept)?.parent);
     assert_eq!(shared.deq(p, kept), Ok(()));

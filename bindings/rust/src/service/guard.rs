@@ -11,8 +11,8 @@ use crate::{Condition, EnqFlags, Error, LockId, Mode, ProcessId, Terms};
 /// A lock of the lock service that is held. Dropping it gives the lock up, and writes the value that
 /// [`ServedGuard::write`] named; a guard that a panic drops writes nothing.
 ///
-/// A drop can't tell that the lock was lost meanwhile: [`ServedGuard::release`] does. A lock with sublocks is not given
-/// up: drop the guards of its sublocks first.
+/// A drop can't tell that the lock was lost meanwhile: [`ServedGuard::release`] does. A lock that has sublocks stays
+/// held: drop the guards of its sublocks first.
 #[must_use = "a guard that is dropped gives its lock up"]
 pub struct ServedGuard {
     connection: Connection,
