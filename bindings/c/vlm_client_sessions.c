@@ -51,9 +51,10 @@ bool vlmc_is_end(const char *line) {
     for (size_t at = 0; at < sizeof ends / sizeof *ends; at++)
         if (strcmp(line, ends[at]) == 0)
             return true;
-    /* (ASTs that are not kept any more; a row of `who` may begin with a name that is so) */
-    const char *count = line + strlen("lost ");
-    return strncmp(line, "lost ", strlen("lost ")) == 0 && count[strspn(count, "0123456789")] == 0;
+    /* `lost 7` counts missed ASTs. (A row of `who` may begin so too, with the name of a lock, but goes on.) */
+    static const char missed[] = "lost ";
+    size_t len = strlen(missed);
+    return strncmp(line, missed, len) == 0 && line[len + strspn(line + len, "0123456789")] == 0;
 }
 
 /* A replica that hung may hear a `resume` after the client has gone on elsewhere. That moves the session to a

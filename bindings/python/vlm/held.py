@@ -102,7 +102,7 @@ class Held(HeldLock):
 
     async def convert_async(self, mode: Mode, *, flags: Flags = Flags.NONE, blocking: Optional[Call] = None) -> None:
         """The same for asyncio. A task that is cancelled leaves nothing queued. If the conversion was granted by then,
-        the lock holds the new mode, and `value` is that of an earlier grant."""
+        the lock holds the new mode, and `value` does not change."""
         import asyncio
         asked = self._conversion(mode, flags, blocking)
         ended = asked.start_in_task()
