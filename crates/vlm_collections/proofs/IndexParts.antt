@@ -1,20 +1,16 @@
 -- What an index in parts finds, and how much room it has, as one of its parts is written.
 use Rattle.std.proofs.Common.{◌≡◌, ◌≢◌, ◌+◌, ◌≤◌, ◌<◌, ℕ, zero, suc, Bool, true, false, nat_eq, List, [], ◌∷◌, Option}
-use Rattle.std.proofs.Common.{None, Some, Result, Ok, Err, OnOk, length, slice_get, slice_index_or, set, refl, sym, ap}
+use Rattle.std.proofs.Common.{None, Some, length, slice_get, slice_index_or, set, refl, sym, ap}
 use Rattle.std.proofs.Common.{◌∙◌, inl, inr, arith}
 use Rattle.std.specs.Cmp.{unsigned_Decides}
 use Rattle.std.specs.Map.{lookup}
 use Rattle.std.specs.Option.{option_map_or}
 use Rattle.std.proofs.lemmas.Bool.{cases_eq}
 use Rattle.std.proofs.lemmas.Option.{get_or_from_slice_get, slice_get-get_or}
-use Rattle.indexmap.specs.IndexMap.{IndexMap, get, spare, IsEmpty, Updates}
+use Rattle.indexmap.specs.IndexMap.{IndexMap, get, spare, IsEmpty}
 use Rattle.vlm_collections.specs.declared.hashers.HashSpread.{HashSpread}
+use Rattle.vlm_collections.specs.NumberMaps.{WritesOne}
 use Rattle.vlm_collections.specs.Parts.{FindsSame, KeepsSpares, Parts, UsesOneSpare, Writes, handle_in, part_of, spare_for, spares_of}
-
--- what a call ensures where it succeeds
-pub ensured_ok : {T E : Type 0} (r : Result T E) (x : T) (P : Type 0) → r ≡ Ok x → OnOk r P → P
-ensured_ok (Ok y) x P is p = p
-ensured_ok (Err e) x P is p = cc
 
 get_set_same : {X : Type 0} (xs : List X) (i : ℕ) (x : X) → i < length xs → slice_get (set xs i x) i ≡ Some x
 get_set_same [] i x within = absurd (omega (arith, within))
@@ -100,10 +96,10 @@ module _ (parts : Parts) (number : ℕ) (other_part : IndexMap ℕ ℕ HashSprea
     same_written same other = found_by_parts other (same other)
 
     -- one number is given a handle, or loses its own
-    pub part_written : (handle : Option ℕ) → Updates nat_eq part part' number handle → Writes number handle parts written
-    part_written handle updates = record {
-      this = found_same_part number refl ∙ updates.1;
-      others = λ other differs. found_by_parts other (updates.2 other (not_equal differs));
+    pub part_written : (handle : Option ℕ) → WritesOne number handle part part' → Writes number handle parts written
+    part_written handle writes = record {
+      this = found_same_part number refl ∙ writes.this;
+      others = λ other differs. found_by_parts other (writes.others other (not_equal differs));
     }
       where
         not_equal : {other : ℕ} → ¬ (other ≡ number) → nat_eq number other ≡ false

@@ -5,6 +5,7 @@ pub mod HandleLists
 pub mod Rings
 pub mod Walks
 pub mod IndexParts
+pub mod NumberMaps
 pub mod Bits
 pub mod Levels
 pub mod Numbers

@@ -41,6 +41,22 @@ impl<Kind> At<Kind> {
         self.at as usize
     }
 
+    // The place as it is stored.
+    pub(crate) fn raw(self) -> u32
+        ensures { result ≡ self }
+    {
+        self.at
+    }
+
+    pub(crate) fn from_raw(at: u32) -> Self
+        ensures { result ≡ at }
+    {
+        At {
+            at,
+            kind: PhantomData,
+        }
+    }
+
     /// The same place as a handle of another kind, for a list that notes records of several kinds.
     pub fn in_kind<Other>(self) -> At<Other>
         ensures { result ≡ self }

@@ -25,6 +25,7 @@ mod hashers;
 mod link;
 mod lists;
 mod marks;
+mod number_map;
 mod parted;
 mod sip;
 

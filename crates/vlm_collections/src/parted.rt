@@ -1,12 +1,12 @@
 //! An index of handles by number, in parts.
 
-ghost use Rattle.std.specs.Prelude.{◌≡◌, ◌<◌, ℕ, None, Some, IsOk, OnOk};
+ghost use Rattle.std.specs.Prelude.{◌≡◌, ◌<◌, ℕ, None, Some, is_none, IsOk, OnOk};
+ghost use Rattle.std.specs.Bool.{OnFalse, OnTrue};
 ghost use Rattle.indexmap.specs.IndexMap.{IsEmpty};
 ghost use Rattle.vlm_collections.specs.Parts.{FindsSame, KeepsSpares, UsesOneSpare, Writes, handle_in, spare_for, spares_of};
 
 use crate::handles::At;
-use crate::hashers::HashSpread;
-use indexmap::IndexMap;
+use crate::number_map::NumberMap;
 use std::alloc::{AllocError, Global};
 use std::array::from_fn;
 use std::marker::Model;
@@ -29,7 +29,7 @@ const EARLY: usize = 1_200;
 #[derive(Drop)]
 pub struct PartedIndex<Kind> {
     // part k has the numbers whose run has remainder k modulo 64
-    parts: [IndexMap<u32, At<Kind>, HashSpread>; PARTS],
+    parts: [NumberMap<Kind>; PARTS],
 }
 
 impl<Kind> Model for PartedIndex<Kind> {
@@ -57,7 +57,7 @@ impl<Kind> PartedIndex<Kind> {
             parts: from_fn(
                 |_|
                     ensures { IsEmpty result }
-                { IndexMap::with_hasher(alloc, HashSpread::new()) },
+                { NumberMap::new(alloc) },
             ),
         }
     }
@@ -66,9 +66,8 @@ impl<Kind> PartedIndex<Kind> {
     pub fn get(&self, number: u32) -> Option<At<Kind>>
         ensures { result ≡ handle_in self.now number }
     {
-        self.parts[number as usize / RUN % PARTS]
-            .get(&number)
-            .copied()
+        let at = self.parts[number as usize / RUN % PARTS].get(number)?;
+        Some(At::from_raw(at))
     }
 
     /// Makes room for one more number in the part of this number.
@@ -95,16 +94,16 @@ impl<Kind> PartedIndex<Kind> {
         }
     }
 
+    /// Gives a number this handle, if it has none. Whether it had none.
     #[inline(always)]
-    pub fn insert(&mut self, number: u32, at: At<Kind>) -> Option<At<Kind>>
+    pub fn insert(&mut self, number: u32, at: At<Kind>) -> bool
         requires room { 0 < spare_for (spares_of self.old) number }
-        ensures before { result ≡ handle_in self.old number }
-        ensures writes { Writes number (Some at) self.old self.new }
+        ensures is_new { result ≡ is_none (handle_in self.old number) }
+        ensures writes { OnTrue result (Writes number (Some at) self.old self.new) }
+        ensures same { OnFalse result (FindsSame self.old self.new) }
         ensures taken { UsesOneSpare (spares_of self.old) (spares_of self.new) }
     {
-        self.parts[number as usize / RUN % PARTS]
-            .insert(number, at)
-            .unwrap()
+        self.parts[number as usize / RUN % PARTS].insert(number, at.raw())
     }
 
     #[inline(always)]
@@ -112,6 +111,6 @@ impl<Kind> PartedIndex<Kind> {
         ensures writes { Writes number None self.old self.new }
         ensures room { KeepsSpares (spares_of self.old) (spares_of self.new) }
     {
-        self.parts[number as usize / RUN % PARTS].swap_remove(&number);
+        self.parts[number as usize / RUN % PARTS].remove(number);
     }
 }

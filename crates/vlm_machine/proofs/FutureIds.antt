@@ -18,7 +18,7 @@ use Rattle.vlm_collections.specs.Lists.{IsIn}
 use Rattle.vlm_records.specs.declared.handles.Place.{Place}
 use Rattle.vlm_records.specs.declared.handles.Place.TheVariants.{Queued}
 use Rattle.vlm_store.specs.Plain.{plain_resource, plain_resources}
-use Rattle.vlm_store.specs.Records.{IsNewLock, IsNewProcess, Records, StoredLock, StoredProcess, StoredResource}
+use Rattle.vlm_store.specs.Records.{IsNewProcess, Records, StoredLock, StoredProcess, StoredResource}
 use Rattle.vlm_store.specs.Records.{locks_at, queued, resource_at, rows_of_locks, Stores}
 use Rattle.vlm_locks.specs.Rising.{IsAboveEachLock}
 use Rattle.vlm_locks.proofs.QueuedLocks.{resource_among}

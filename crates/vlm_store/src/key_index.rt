@@ -4,7 +4,7 @@ ghost use Rattle.std.specs.Prelude.{◌≡◌, ◌+◌, ◌<◌, ℕ, Some, IsOk
 ghost use Rattle.slab.specs.Slab.{ContainsKey};
 ghost use Rattle.vlm_collections.specs.Parts.{FindsSame, KeepsSpares, UsesOneSpare, spare_for, spares_of};
 ghost use Rattle.vlm_store.specs.HashedKeys.{hashed_in};
-ghost use Rattle.vlm_store.specs.KeyIndexes.{Enters, FindsNothing, IsSame, Leaves, found_by, last_of, spares_in};
+ghost use Rattle.vlm_store.specs.KeyIndexes.{Enters, FindsNothing, IsSame, Leaves, found_by, main_of, spares_in};
 
 use crate::other_keys::OtherKeys;
 use slab::Slab;
@@ -14,11 +14,11 @@ use vlm_records::{ResAt, Resource, ResourceKind};
 use vlm_words::resources::Key;
 
 /// Finds resources by their keys. The index has hashes of 32 bits; the keys are in the records. If several resources
-/// have one hash, `last` leads to the last one made, and `others` finds the rest by their keys. There are few of
-/// these, since nobody can choose names with equal hashes without the keys of the hash.
+/// have one hash, `main` leads to one of them, and `others` finds the rest by their keys. There are few of these, since
+/// nobody can choose names with equal hashes without the keys of the hash.
 pub(crate) struct KeyIndex {
-    // the resource of each hash; if several have it, the last one made
-    last: PartedIndex<ResourceKind>,
+    // the resource of each hash; if several have it, one that came when no other had it
+    main: PartedIndex<ResourceKind>,
     // all other resources, by their keys; nearly always empty
     others: OtherKeys,
     // how often room was made for a resource
@@ -32,7 +32,7 @@ const BETWEEN_LOOKS: u32 = 1_024;
 impl Drop for KeyIndex {
     fn drop(self) {
         let KeyIndex {
-            last: _,
+            main: _,
             others: _,
             reserves: _,
         } = self;
@@ -45,7 +45,7 @@ impl KeyIndex {
         ensures { FindsNothing result }
     {
         KeyIndex {
-            last: PartedIndex::new(alloc),
+            main: PartedIndex::new(alloc),
             others: OtherKeys::new(alloc),
             reserves: 0,
         }
@@ -59,28 +59,28 @@ impl KeyIndex {
         ensures succeeds { 0 < spare_for (spares_in self.old) hash → IsOk result }
     {
         self.look_ahead();
-        self.last.reserve(hash)?;
+        self.main.reserve(hash)?;
         self.others.reserve()
     }
 
     // Counts the calls. One of 1,024 looks at a part of the index, each at the next part.
     #[inline(always)]
     fn look_ahead(&mut self)
-        ensures last { FindsSame self.old.last self.new.last }
-        ensures room { KeepsSpares (spares_of self.old.last) (spares_of self.new.last) }
+        ensures main { FindsSame self.old.main self.new.main }
+        ensures room { KeepsSpares (spares_of self.old.main) (spares_of self.new.main) }
         ensures others { self.new.others ≡ self.old.others }
     {
         self.reserves = self.reserves.wrapping_add(1);
         if self.reserves % BETWEEN_LOOKS == 0 {
-            self.last.grow_early(self.reserves);
+            self.main.grow_early(self.reserves);
         }
     }
 
     pub fn get(&self, resources: &Slab<Resource>, key: &Key, hash: u32) -> Option<ResAt>
-        requires { (at : ℕ) → last_of self.now hash ≡ Some at → ContainsKey resources.now at }
+        requires { (at : ℕ) → main_of self.now hash ≡ Some at → ContainsKey resources.now at }
         ensures { result ≡ found_by self.now resources.now (record { key = key.now; hash = hash }) }
     {
-        if let Some(at) = self.last.get(hash) {
+        if let Some(at) = self.main.get(hash) {
             if resources[at.slot()].key == *key {
                 return Some(at);
             }
@@ -88,17 +88,14 @@ impl KeyIndex {
         self.others.get(key, hash)
     }
 
-    /// Adds a resource. If another resource has the same hash, that one moves to `others`.
-    pub fn insert(&mut self, resources: &Slab<Resource>, at: ResAt, hash: u32)
-        requires room { 0 < spare_for (spares_in self.old) hash }
-        requires there { (before : ℕ) → last_of self.old hash ≡ Some before
-            → ContainsKey resources.now before }
-        ensures enters { Enters resources.now at hash self.old self.new }
+    /// Adds a resource. If another resource has the same hash, the new one goes to `others`.
+    pub fn insert(&mut self, key: &Key, hash: u32, at: ResAt)
+        requires { 0 < spare_for (spares_in self.old) hash }
+        ensures enters { Enters (record { key = key.now; hash = hash }) at self.old self.new }
         ensures taken { UsesOneSpare (spares_in self.old) (spares_in self.new) }
     {
-        if let Some(before) = self.last.insert(hash, at) {
-            let Resource { key, hash, .. } = &resources[before.slot()];
-            self.others.insert(key, *hash, before);
+        if !self.main.insert(hash, at) {
+            self.others.insert(key, hash, at);
         }
     }
 
@@ -109,6 +106,6 @@ impl KeyIndex {
         if self.others.remove(&resource.key, resource.hash) {
             return;
         }
-        self.last.remove(resource.hash);
+        self.main.remove(resource.hash);
     }
 }

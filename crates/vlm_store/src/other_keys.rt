@@ -1,4 +1,4 @@
-//! An index of the few resources that have the same hash as a newer resource.
+//! An index of the few resources whose hash another resource had when they came.
 
 ghost use Rattle.std.specs.Prelude.{◌≡◌, ◌≤◌, ◌+◌, None, Some};
 ghost use Rattle.indexmap.specs.IndexMap.{Updates, get, spare};

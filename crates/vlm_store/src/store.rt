@@ -326,8 +326,7 @@ impl Store {
             self.queues
                 .add_resource(&mut self.order, serial, site, hash),
         );
-        self.resource_index
-            .insert(&self.queues.resources, res, hash);
+        self.resource_index.insert(&site.key, hash, res);
         res
     }
 

@@ -12,4 +12,4 @@ returns-then-len-ge-LARGE-clause-same g c =
 pub returns-then-len-ge-LARGE-clause-room : goal.returns-then-len-ge-LARGE-clause-room
 returns-then-len-ge-LARGE-clause-room g c =
     rw (← c.self.view_is)
-    (spares_kept c.self.inside.parts c.args.number c.index-self-number-then-len-ge-LARGE.result c.self.invariant c.reserve.new.self c.reserve.ensures.room.0)
+    (spares_kept c.self.inside.parts c.args.number c.index-self-number-then-len-ge-LARGE.result c.self.invariant c.reserve.new.self c.reserve.ensures.room)

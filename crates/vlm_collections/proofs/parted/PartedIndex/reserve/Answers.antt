@@ -13,7 +13,7 @@ returns-clause-same g c =
 pub returns-clause-room : goal.returns-clause-room
 returns-clause-room g c =
     rw (← c.self.view_is)
-    (spares_kept c.self.inside.parts c.args.number c.index-self-number.result c.self.invariant c.reserve.new.self c.reserve.ensures.room.0)
+    (spares_kept c.self.inside.parts c.args.number c.index-self-number.result c.self.invariant c.reserve.new.self c.reserve.ensures.room)
 
 pub returns-clause-find : goal.returns-clause-find
 returns-clause-find g c =

@@ -1,5 +1,6 @@
-use Rattle.std.proofs.Common.{◌≡◌, ◌∙◌, ℕ, None, Some, IsSome, ap, sym, refl, arith, ◌+◌}
+use Rattle.std.proofs.Common.{◌≡◌, ◌∙◌, ℕ, None, Some, IsSome, is_none, ap, sym, refl, arith, ◌+◌}
 use Rattle.std.specs.Option.{option_map}
+use Rattle.std.proofs.lemmas.Bool.{OnTrue_at}
 use Rattle.slab.specs.Slab.{get as slot_of}
 use Rattle.vlm_collections.specs.Parts.{spares_of}
 use Rattle.vlm_collections.proofs.Keeping.{relinked_same}
@@ -113,11 +114,14 @@ invariant_of-self c =
     let q' = record c.add-slot.new.self { locks = c.join_parent.new.locks } in
     let lkid = c.args.row.now.lkid in
     let lkids = joined_lkids new c.join_process.ensures c.join_parent.ensures in
+    let none = no_lock_found s kept lkid (rw (← c.self.view_is) at c.requires.new) in
+    let is_new = rw c.lkid.ensures at c.insert.ensures.is_new in
+    let writes = OnTrue_at (is_new ∙ ap is_none none) (rw (c.of-at.ensures, c.lkid.ensures) at c.insert.ensures.writes) in
     joined_kept new c.join_process.ensures c.join_parent.ensures c.join_wait_list.new.wait_list c.insert.new.self c.join_wait_list.ensures.wait_list
     (Indexes-added s.lock_index c.insert.new.self lkid (lkid_at s.queues) (lkid_at q') c.add-slot.result
-    (rw (c.of-at.ensures, c.lkid.ensures) at c.insert.ensures.writes) (ap (option_map lkid_of) c.add-slot.ensures.fresh)
+    writes (ap (option_map lkid_of) c.add-slot.ensures.fresh)
     (lkids c.add-slot.result ∙ new_lkid new) (λ k differs. lkids k ∙ other_lkids new k differs)
-    (no_lock_found s kept lkid (rw (← c.self.view_is) at c.requires.new)) kept.locks)
+    none kept.locks)
 
 pub returns-clause-added : goal.returns-clause-added
 returns-clause-added c =

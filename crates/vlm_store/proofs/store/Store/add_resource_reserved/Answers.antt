@@ -1,4 +1,4 @@
-use Rattle.std.proofs.Common.{◌≡◌, arith, ◌∙◌, ◌++◌, ◌∷◌, [], ℕ, None, Some, IsSome, ap, sym, refl, subst}
+use Rattle.std.proofs.Common.{◌≡◌, arith, ◌∙◌, ◌++◌, ◌∷◌, [], ℕ, None, Some, IsSome, ap, refl, subst}
 use Rattle.std.specs.Option.{option_map}
 use Rattle.slab.specs.Slab.{get as slot_of, get}
 use Rattle.vlm_collections.specs.Parts.{handle_in, spares_of}
@@ -17,7 +17,7 @@ use Rattle.vlm_store.specs.Kept.{beside_shown, found_in}
 use Rattle.vlm_store.specs.KeyIndexes.{Enters, spares_in}
 use Rattle.vlm_store.specs.Records.{new_stored_resource, IsTaken}
 use Rattle.vlm_store.specs.Store.{lkid_at, resource_of, tables, records_of}
-use Rattle.vlm_store.proofs.HashedKeys.{by_keys, fresh_label, hashed_added, hashed_by_face, hashed_is, last_there}
+use Rattle.vlm_store.proofs.HashedKeys.{by_keys, fresh_label, hashed_added, hashed_by_face, hashed_is}
 use Rattle.vlm_store.proofs.Indexing.{Indexes-same}
 use Rattle.vlm_store.proofs.KeptRecords.{no_resource}
 use Rattle.vlm_store.proofs.Kinship.{records_keys, queued_below, queued_named, queued_owned, queued_processes}
@@ -40,18 +40,8 @@ add_resource-requires-clause-room c = (resource_room c.self.inside c.args.hash (
 pub add_resource-requires-clause-within : goal.add_resource-requires-clause-within
 add_resource-requires-clause-within c = (resource_room c.self.inside c.args.hash (rw (← c.self.view_is) at c.requires.room)).1
 
-pub insert-requires-clause-room : goal.insert-requires-clause-room
-insert-requires-clause-room c = (resource_room c.self.inside c.args.hash (rw (← c.self.view_is) at c.requires.room)).2
-
-pub insert-requires-clause-there : goal.insert-requires-clause-there
-insert-requires-clause-there c before last =
-    let s = c.self.inside in
-    let added = c.add_resource.ensures in
-    let there : IsSome (slot_of s.queues.resources before) =
-    last_there (hash_key s.keys) s.resource_index s.queues c.self.invariant.resources c.args.hash before last in
-    let differs = λ (is : before ≡ c.add_resource.result). let nothing : IsSome {T = Resource} None =
-    rw (ap (slot_of s.queues.resources) is ∙ added.fresh) at there in absurd (cc) in
-    there_by_face (slot_of s.queues.resources before) (slot_of c.add_resource.new.self.resources before) (sym (added.faces before differs)) there
+pub insert-requires : goal.insert-requires
+insert-requires c = (resource_room c.self.inside c.args.hash (rw (← c.self.view_is) at c.requires.room)).2
 
 pub invariant_of-self : goal.invariant_of-self
 invariant_of-self c =
@@ -81,9 +71,9 @@ invariant_of-self c =
       locks = Indexes-same (handle_in s.lock_index) (handle_in s.lock_index) (lkid_at s.queues) (lkid_at q') (λ k. refl)
           (λ x. ap (λ l. option_map lkid_of (slot_of l x)) added.locks) kept.locks;
       resources = hashed_added (hash_key s.keys) s.resource_index c.insert.new.self (hashed_at s.queues) (hashed_at q') at found
-          (λ r differs. hashed_by_face (slot_of q'.resources r) (slot_of s.queues.resources r) (added.faces r differs)) kept.resources q'.resources
-          (subst (λ (n : ℕ). Enters q'.resources at n s.resource_index c.insert.new.self) hash_known (rw c.of-res.ensures at c.insert.ensures.enters))
-          (λ b. refl) (ap (option_map hashed_in) added.fresh)
+          (λ r differs. hashed_by_face (slot_of q'.resources r) (slot_of s.queues.resources r) (added.faces r differs)) kept.resources
+          (subst (λ (k : HashedKey). Enters k at s.resource_index c.insert.new.self) hash_is (rw c.of-res.ensures at c.insert.ensures.enters))
+          (ap (option_map hashed_in) added.fresh)
           (hashed_is (slot_of q'.resources at) (new_face c.args.serial c.args.site.now c.args.hash) added.face ∙ ap (λ (k : HashedKey). Some k) hash_is)
           fresh refl;
       owned = queued_owned s.processes s.queues.locks q'.locks locks_same None kept.owned;

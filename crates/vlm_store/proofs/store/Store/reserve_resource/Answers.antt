@@ -11,7 +11,7 @@ use Rattle.vlm_store.proofs.store.Store.reserve_resource.Goals as goal
 pub invariant_of-self : goal.invariant_of-self
 invariant_of-self c =
     resource_room_kept c.self.inside c.self.invariant c.reserve_slot.new.records c.self.inside.resource_index
-    c.reserve_slot.ensures.records (record { last = λ hash. refl; other = λ k. refl })
+    c.reserve_slot.ensures.records (record { main = λ hash. refl; other = λ k. refl })
 
 pub invariant_of-self-2 : goal.invariant_of-self-2
 invariant_of-self-2 c =

@@ -6,11 +6,11 @@ use Rattle.vlm_store.proofs.KeptRecords.{finds_resource, found_there}
 use Rattle.vlm_store.specs.Kept.{beside_shown, found_in}
 use Rattle.vlm_store.specs.Store.{tables}
 use Rattle.vlm_store.proofs.Kinship.{records_keys}
-use Rattle.vlm_store.proofs.HashedKeys.{by_keys, found_hashed, last_there}
+use Rattle.vlm_store.proofs.HashedKeys.{by_keys, found_hashed, main_there}
 use Rattle.vlm_store.proofs.store.Store.resource.Goals as goal
 
 pub get-requires : goal.get-requires
-get-requires c = last_there (hash_key c.self.inside.keys) c.self.inside.resource_index c.self.inside.queues c.self.invariant.resources c.args.hash
+get-requires c = main_there (hash_key c.self.inside.keys) c.self.inside.resource_index c.self.inside.queues c.self.invariant.resources c.args.hash
 
 pub returns-clause-found : goal.returns-clause-found
 returns-clause-found c =
