@@ -353,6 +353,9 @@ bool replica_apply(struct replica *replica, uint64_t revision, const struct byte
     struct entry entry;
     /* (an append is repeated if its answer is lost, also after a chunk has taken it away) */
     bool is_new = head.number > peer->last && !peer->is_gone;
+    /* (a chunk leaves batches out) */
+    if (is_new && kept != NULL && head.number != peer->last + 1)
+        replica_fail("the list lacks a batch");
     if (is_new)
         peer->last = head.number;
     peer->heard = replica->now;

@@ -18,6 +18,8 @@ _HEAD, _REPLICA, _NUMBERED, _ENTRY = 24, slice(8, 16), slice(8, 24), struct.Stru
 _BEAT, _END, _GONE = 4, 5, 7
 # A batch in a chunk: its revision and its length. A chunk begins with the revision up to which it goes.
 _PLACED, _COVERED = struct.Struct("<QI"), struct.Struct("<Q")
+# How many chunks' bytes may wait to be packed.
+_MOST_CHUNKS = 16
 # How hard a chunk is compressed: more takes ten times as long, for a fifth less.
 _PRESET = 3
 
@@ -134,6 +136,12 @@ class Log:
     def is_full(self) -> bool:
         """Whether there is enough for a chunk."""
         return self._bytes >= self.size
+
+    @property
+    def is_long(self) -> bool:
+        """Whether so much is in no chunk that appends have to wait: else the list might grow faster than it is packed,
+        and then a replica that starts has ever more to read."""
+        return self._bytes >= _MOST_CHUNKS * self.size
 
     def cover(self, chunks: int, covered: int) -> None:
         """The batches up to a revision are in this many chunks. Fewer than are known are no news."""

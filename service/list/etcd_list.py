@@ -19,7 +19,8 @@ from typing import Any, Callable, Iterator, List, Optional, Sequence, Tuple, Typ
 import etcd3
 import grpc
 from etcd3 import etcdrpc
-from etcd3.exceptions import ConnectionFailedError, ConnectionTimeoutError, InternalServerError
+from etcd3.exceptions import (ConnectionFailedError, ConnectionTimeoutError, InternalServerError,
+                              PreconditionFailedError)
 
 from chunks import Batch, ahead, unpack
 from members import Place
@@ -27,16 +28,34 @@ from members import Place
 _T = TypeVar("_T")
 # How long a member may take to answer, and the pause after no member did.
 _SECONDS, _PAUSE = 2.0, 0.2
+# After how long the log tells that no member does.
+_LONG = 5.0
 # How long a member may take to tell what it has itself. It needs no other member for that.
 _PRESENT = 0.5
 # A chunk may have 1.5 MB, and a page of entries several: the library's limit for answers is 4 MB.
 _OPTIONS = [("grpc.max_receive_message_length", 1 << 26), ("grpc.keepalive_time_ms", 10_000),
             ("grpc.keepalive_timeout_ms", 3_000), ("grpc.initial_reconnect_backoff_ms", 200),
             ("grpc.max_reconnect_backoff_ms", 1_000)]
-# How many batches a page has that is read, and how many keys a transaction deletes: etcd's limit is 128.
-_PAGE, _DELETED = 500, 100
+# How many batches a page has that is read, or one of batches so long that they do not fit into an answer, and how long a
+# member may take to send a page; how many keys a transaction deletes: etcd's limit is 128.
+_PAGE, _SHORT_PAGE, _PAGE_SECONDS, _DELETED = 500, 32, 20.0, 100
 _PASSING = {grpc.StatusCode.UNAVAILABLE, grpc.StatusCode.DEADLINE_EXCEEDED, grpc.StatusCode.INTERNAL,
             grpc.StatusCode.RESOURCE_EXHAUSTED, grpc.StatusCode.CANCELLED, grpc.StatusCode.UNKNOWN}
+# What all members answer alike. Other refusals may be those of one member, or of a proxy before it.
+_FINAL = {grpc.StatusCode.OUT_OF_RANGE, grpc.StatusCode.INVALID_ARGUMENT}
+
+
+class GoneBack(Exception):
+    """etcd has lost what it had told: it was restored, or its members have lost their disks. The replicas' states are
+    of a list that is no more."""
+
+
+class Hole(Exception):
+    """The list lacks a part."""
+
+
+class TooLong(Exception):
+    """An answer is longer than the library takes."""
 
 
 class Compacted(Exception):
@@ -59,12 +78,21 @@ def _is_passing(failed: Exception) -> bool:
     return isinstance(failed, (ConnectionFailedError, ConnectionTimeoutError, InternalServerError))
 
 
+def _is_refusal(failed: Exception) -> bool:
+    """Whether a member refuses what another one may do."""
+    if isinstance(failed, grpc.RpcError):
+        return failed.code() not in _FINAL
+    return isinstance(failed, PreconditionFailedError)
+
+
 def _is_code(failed: Exception, code: grpc.StatusCode) -> bool:
     return isinstance(failed, grpc.RpcError) and failed.code() == code
 
 
 def _reason(failed: Exception) -> str:
-    return failed.code().name if isinstance(failed, grpc.RpcError) else repr(failed)
+    if not isinstance(failed, grpc.Call):
+        return failed.code().name if isinstance(failed, grpc.RpcError) else repr(failed)
+    return f"{failed.code().name}: {failed.details()}"
 
 
 def _after(prefix: bytes) -> bytes:
@@ -86,18 +114,27 @@ class EtcdList:
         self._entries, self._chunks = prefix + "entries/", prefix + "packed/"
 
     def call(self, kind: str, ask: Callable[[Any], _T]) -> _T:
-        """Asks one member after another, until one answers."""
-        place = self._places[kind]
+        """Asks one member after another, until one answers. Raises what they say if all of them refuse."""
+        place, is_told, begun = self._places[kind], False, time.monotonic()
         while True:
+            refusals = 0
             for _ in self._clients:
                 at = place.at
                 try:
-                    return ask(self._clients[at])
+                    answer = ask(self._clients[at])
+                    if is_told:
+                        logging.warning("%s: etcd answers again", kind)
+                    return answer
                 except Exception as failed:
-                    if not _is_passing(failed):
+                    refusals += not _is_passing(failed)
+                    if not _is_passing(failed) and (not _is_refusal(failed) or refusals == len(self._clients)):
                         raise
-                    logging.info("%s: etcd's member %d: %s", kind, at, _reason(failed))
+                    reason = _reason(failed)
+                    logging.info("%s: etcd's member %d: %s", kind, at, reason)
                 self.leave(kind, at)
+            if not is_told and time.monotonic() - begun > _LONG:
+                logging.warning("%s: no member of etcd answers: %s", kind, reason)
+                is_told = True
             time.sleep(_PAUSE)
 
     def leave(self, kind: str, failed: int) -> None:
@@ -120,10 +157,12 @@ class EtcdList:
             return False
         return True
 
-    def append(self, name: str, batch: bytes) -> Optional[int]:
-        """Appends a batch. Returns its revision, or None if it was there already: an earlier try may have put it."""
-        put = self.call("append", lambda client: client.put(self._entries + name, batch, prev_kv=True))
-        return None if put.HasField("prev_kv") else int(put.header.revision)
+    def append(self, name: str, batch: bytes, is_there: Callable[[], bool] = lambda: False) -> Optional[int]:
+        """Appends a batch. Returns its revision, or None if it was there already: an earlier try may have put it. It is
+        not tried again once it is there: etcd may be slower than a call may take."""
+        put = self.call("append", lambda client: None if is_there() else
+                        client.put(self._entries + name, batch, prev_kv=True))
+        return None if put is None or put.HasField("prev_kv") else int(put.header.revision)
 
     def revision(self) -> int:
         """The last revision."""
@@ -137,30 +176,50 @@ class EtcdList:
     def _unpacked(self, known: int, revision: int) -> Iterator[Chunk]:
         while True:
             key = self._chunk_key(known + 1)
-            found = self._range(key, range_end=key + "\0", revision=revision).kvs
+            # (the end is what follows all digits)
+            found = self._range(key, range_end=self._chunks + ":", limit=1, revision=revision).kvs
             if not found:
                 return
+            if found[0].key != key.encode():
+                raise Hole(f"the list lacks chunk {known + 1}")
             known += 1
             covered, batches = unpack(found[0].value)
             yield Chunk(known, covered, batches)
 
     def batches(self, after: int, revision: int) -> Iterator[Batch]:
         """The batches after a revision, in order, as they are at another revision. Raises Compacted as chunks does."""
+        limit = _PAGE
         while True:
-            page = self._range(self._entries, revision=revision, limit=_PAGE, min_create_revision=after + 1,
-                               sort_order=etcdrpc.RangeRequest.ASCEND, sort_target=etcdrpc.RangeRequest.CREATE).kvs
+            try:
+                page = self._range(self._entries, seconds=_PAGE_SECONDS, revision=revision, limit=limit,
+                                   min_create_revision=after + 1, sort_order=etcdrpc.RangeRequest.ASCEND,
+                                   sort_target=etcdrpc.RangeRequest.CREATE).kvs
+            except TooLong:
+                if limit == _SHORT_PAGE:
+                    raise
+                limit = _SHORT_PAGE
+                continue
             for it in page:
                 yield _batch(it)
-            if len(page) < _PAGE:
+            if len(page) < limit:
                 return
             after = page[-1].create_revision
 
-    def _range(self, prefix: str, range_end: Optional[str] = None, **words: Any) -> Any:
+    def _range(self, prefix: str, range_end: Optional[str] = None, seconds: float = _SECONDS, **words: Any) -> Any:
         """The keys with a prefix, or up to an end."""
         end = _after(prefix.encode()) if range_end is None else range_end.encode()
         request = etcdrpc.RangeRequest(key=prefix.encode(), range_end=end, **words)
+
+        def ask(client: Any) -> Any:
+            try:
+                return client.kvstub.Range(request, seconds)
+            except grpc.RpcError as failed:
+                if _is_code(failed, grpc.StatusCode.RESOURCE_EXHAUSTED) and "larger than max" in _reason(failed):
+                    raise TooLong from None
+                raise
+
         try:
-            return self.call("read", lambda client: client.kvstub.Range(request, _SECONDS))
+            return self.call("read", ask)
         except grpc.RpcError as failed:
             if not _is_code(failed, grpc.StatusCode.OUT_OF_RANGE):
                 raise
@@ -229,12 +288,15 @@ class Watch:
                 self._responses = None
                 self._store.leave("watch", self._member)
                 time.sleep(_PAUSE)
+                if self._store.revision() < self._revision - 1:
+                    raise GoneBack from None
                 continue
             if response.compact_revision:
                 self.cancel()
                 raise Compacted
             if response.canceled:
                 self.cancel()
+                time.sleep(_PAUSE)
             elif response.events:
                 self._revision = response.events[-1].kv.mod_revision + 1
                 return [_batch(it.kv) for it in response.events if it.type == it.PUT]

@@ -82,7 +82,9 @@ def hang(local, fault, pairs):
 def run(local, fault, pairs, number):
     """Pairs under a fault. Returns what is wrong."""
     first = [number + at for at in range(pairs)]
-    made = [Pair(local.places[at % REPLICAS:] + local.places[:at % REPLICAS], f"run{number}-{at}") for at in first]
+    # (the sessions of the fault before have not ended yet: names of their own, or these holders would wait for them)
+    names = [f"{fault.replace(' ', '-')}{number}-{at}" for at in first]
+    made = [Pair(local.places[at % REPLICAS:] + local.places[:at % REPLICAS], name) for at, name in zip(first, names)]
     until = time.monotonic() + BEFORE + FAULTS[fault] + AFTER
     threads = [threading.Thread(target=call, args=(until,)) for pair in made for call in (pair.hold, pair.wait)]
     for thread in threads:

@@ -1,6 +1,7 @@
 """Which member of etcd is asked after one has failed, with members that are made up; and what chunks keep."""
 
 import io
+import itertools
 import random
 import struct
 import sys
@@ -19,8 +20,9 @@ sys.path.insert(0, str(LIST))
 sys.dont_write_bytecode = True
 import grpc  # noqa: E402
 from etcd3 import etcdrpc  # noqa: E402
+import etcd_list  # noqa: E402
 from chunks import Batch, Log, ahead, pack, unpack  # noqa: E402
-from etcd_list import Chunk, Compacted, EtcdList  # noqa: E402
+from etcd_list import Chunk, Compacted, EtcdList, GoneBack, Hole  # noqa: E402
 from members import Place  # noqa: E402
 
 vlm_list = SourceFileLoader("vlm_list", str(LIST / "vlm-list")).load_module("vlm_list")
@@ -34,13 +36,28 @@ class Failed(grpc.RpcError):
         return grpc.StatusCode.DEADLINE_EXCEEDED
 
 
+class Refused(grpc.RpcError):
+    def code(self):
+        return grpc.StatusCode.PERMISSION_DENIED
+
+
+class TooMuch(grpc.RpcError, grpc.Call):
+    """What the library makes of an answer that is longer than it takes."""
+
+    def code(self):
+        return grpc.StatusCode.RESOURCE_EXHAUSTED
+
+    def details(self):
+        return "CLIENT: Received message larger than max (178257920 vs. 67108864)"
+
+
 class Member:
     """Counts what it is asked for, and fails what it is told to fail."""
 
     def __init__(self):
         self.kvstub, self.channel, self.has_put = self, self, set()
         self.fails, self.calls = set(), {"append": 0, "read": 0, "presence": 0}
-        self.before_failure = lambda: None
+        self.failure, self.before_failure = Failed, lambda: None
 
     def put(self, key, _value, prev_kv):
         assert prev_kv
@@ -59,7 +76,7 @@ class Member:
         self.calls[kind] += 1
         if kind in self.fails:
             self.before_failure()
-            raise Failed
+            raise self.failure
 
 
 class Members(unittest.TestCase):
@@ -94,6 +111,53 @@ class Members(unittest.TestCase):
 
     def test_an_append_that_is_repeated_has_no_revision(self):
         self.assertEqual([self.store.append(name, b"") for name in "aba"], [9, 9, None])
+
+    def test_a_member_that_refuses_is_passed_over_and_all_of_them_are_believed(self):
+        for member in self.members[:2]:
+            member.failure, member.fails = Refused, {"append"}
+        self.store.append("a", b"")
+        self.assertEqual(self.calls("append"), [1, 1, 1])
+        self.members[2].failure, self.members[2].fails = Refused, {"append"}
+        with self.assertRaises(Refused):
+            self.store.append("b", b"")
+
+    def test_a_watch_that_ends_finds_that_etcd_has_gone_back(self):
+        watch = self.store.watch(3)  # (the members have revision 1)
+        with mock.patch("etcd_list.etcdrpc.WatchStub", lambda _: SimpleNamespace(Watch=lambda *_, **__: iter([]))):
+            self.assertRaises(GoneBack, watch.next)
+
+    def test_a_chunk_that_is_not_there_is_missed(self):
+        found = SimpleNamespace(kvs=[SimpleNamespace(key=b"vlm/packed/00000002", value=pack([placed(1, 1, 1)]))])
+        with mock.patch.object(self.store, "_range", return_value=found):
+            self.assertEqual([it.number for it in itertools.islice(self.store._unpacked(1, 9), 1)], [2])
+            self.assertRaises(Hole, next, self.store._unpacked(0, 9))
+
+    def test_a_page_of_the_longest_batches_fits_into_an_answer(self):
+        longest = (512 << 10) + (1 << 16) + 1024
+        most = dict(etcd_list._OPTIONS)["grpc.max_receive_message_length"]
+        self.assertLess(etcd_list._SHORT_PAGE * longest, most)
+
+    def test_a_page_that_is_too_long_is_asked_for_in_short_ones(self):
+        keys = [SimpleNamespace(create_revision=at, key=b"vlm/entries/a", value=b"") for at in range(2, 40)]
+        asked = []
+
+        def answer(request, _):
+            asked.append(request.limit)
+            if request.limit == etcd_list._PAGE:
+                raise TooMuch
+            found = [it for it in keys if it.create_revision >= request.min_create_revision]
+            return SimpleNamespace(kvs=found[:request.limit])
+
+        self.members[0].Range = answer
+        self.assertEqual([it.revision for it in self.store.batches(1, 99)], list(range(2, 40)))
+        self.assertEqual(asked, [500, 32, 32])
+        self.assertEqual(self.calls("read"), [0, 0, 0])
+
+    def test_an_append_that_is_there_is_not_tried_again(self):
+        for member in self.members:
+            member.fails = {"append"}
+        self.assertIsNone(self.store.append("a", b"", lambda: sum(self.calls("append")) == 2))
+        self.assertEqual(self.calls("append"), [1, 1, 0])
 
     def test_a_call_that_fails_late_moves_nothing(self):
         place = Place(MEMBERS)
@@ -220,6 +284,14 @@ class Chunks(unittest.TestCase):
         log.cover(1, 2)
         self.assertEqual((log.chunks, log.covered), (2, 4))
 
+    def test_much_that_is_in_no_chunk_has_appends_wait(self):
+        log = Log(200)
+        for revision in range(1, 40):
+            log.add(placed(revision, 1, revision, an_entry(0, LINE, bytes(100))))
+            self.assertEqual(log.is_long, revision * 132 >= 16 * 200)
+        log.cover(1, 38)
+        self.assertFalse(log.is_long)
+
 
 class Ends(unittest.TestCase):
     def test_the_beat_that_an_end_names_stays(self):
@@ -283,6 +355,23 @@ class Keeping(unittest.TestCase):
     def test_an_append_that_was_there_is_not_told_again(self):
         self.keeper._tell_appended(None, Ends.batch(2, 1, 1).entries)
         self.assertEqual(self.told(), [1, "a"])
+
+    def test_an_append_that_is_older_than_what_was_told_ends_the_list(self):
+        self.store.append = lambda *_: 1
+        self.keeper._batches.put(b"batch")
+        self.assertRaises(GoneBack, self.keeper._append)
+
+    def test_a_part_of_a_frame_is_not_heard(self):
+        whole, heard = struct.pack("<I", 6) + b"abatch", []
+        for cut in range(1, len(whole)):
+            keeper = SimpleNamespace(start=lambda: None, hear=heard.append)
+            with mock.patch.object(vlm_list, "Keeper", lambda *_, made=keeper: made), \
+                    mock.patch.object(vlm_list, "EtcdList"), mock.patch.object(vlm_list.os, "_exit"), \
+                    mock.patch.object(vlm_list.signal, "signal"), \
+                    mock.patch.object(vlm_list.sys, "argv", ["vlm-list", "127.0.0.1:1", "vlm/", "1"]), \
+                    mock.patch.object(vlm_list.sys, "stdin", SimpleNamespace(buffer=io.BytesIO(whole + whole[:cut]))):
+                vlm_list.main()
+        self.assertEqual(heard, [b"abatch"] * (len(whole) - 1))
 
     def test_a_reading_that_etcd_overtakes_ends_no_list(self):
         self.store.chunks = mock.Mock(side_effect=Compacted)

@@ -282,5 +282,21 @@ class Service(OverReplicas):
         self.assert_equal_replicas(p, count)
 
 
+class Lost(unittest.TestCase):
+    def test_a_replica_ends_where_the_list_lacks_batches(self):
+        with Local(1, 2) as local:
+            local.wait()
+            there = Lines(local.places[0], "open seconds=60", "declare P", "enq P EX name=A block=1")
+            self.addCleanup(there.close)
+            store = EtcdList(local.members)
+            store.drop(store.revision(), 0)
+            local.kill("replica 1")
+            local.start_replica(1)
+            # (the next batch of the other replica is not its first)
+            self.assertNotEqual(there.ask("enq P EX name=B block=1"), None)
+            self.assertEqual(local.processes["replica 1"].wait(PATIENCE), 1)
+            self.assertIn("the list lacks a batch", (local.folder / "replica 1.log").read_text())
+
+
 if __name__ == "__main__":
     unittest.main()
