@@ -20,7 +20,7 @@
 enum { MOST_GROUPS = 256, PATH = 108, WORD = 256, MOST_LISTENERS = 8 };
 
 /* Exit statuses. */
-enum { LOST_LIST = 1, WRONG_WORDS = 2, NO_START = 4 };
+enum { WRONG_WORDS = 2, NO_START = 4 };
 
 /* A group of the system and the UIC group of its members. */
 struct group_row {

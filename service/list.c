@@ -37,11 +37,14 @@ static void fail(const char *text) {
     exit(LOST_LIST);
 }
 
+/* The list takes or tells nothing any more. How its program has ended says whether this replica may start again. */
+static void lose_list(void) { uv_process_kill(&list.process, SIGKILL); }
+
 static void on_written(uv_write_t *write, int status) {
     free(write->data);
     free(write);
     if (status != 0)
-        fail("the list takes nothing any more");
+        lose_list();
 }
 
 /* Sends a frame. Its bytes go to the list, and are freed then. */
@@ -51,8 +54,11 @@ static void send_frame(struct bytes *frame) {
         fail("no memory");
     write->data = frame->all;
     uv_buf_t buffer = uv_buf_init((char *)frame->all, (unsigned)frame->len);
-    if (uv_write(write, (uv_stream_t *)&list.to, &buffer, 1, on_written) != 0)
-        fail("the list takes nothing any more");
+    if (uv_write(write, (uv_stream_t *)&list.to, &buffer, 1, on_written) != 0) {
+        free(frame->all);
+        free(write);
+        lose_list();
+    }
 }
 
 static void begin_frame(struct bytes *frame, char letter, size_t len) {
@@ -115,10 +121,11 @@ static void on_room(uv_handle_t *handle, size_t suggested, uv_buf_t *buffer) {
 }
 
 static void on_heard(uv_stream_t *stream, ssize_t len, const uv_buf_t *buffer) {
-    (void)stream;
-    if (len < 0)
-        fail("the list has ended");
-    if (len == 0)
+    if (len < 0) {
+        uv_read_stop(stream);
+        lose_list();
+    }
+    if (len <= 0)
         return;
     /* (a lease is counted from when its beat came by, not from before) */
     uv_update_time(&vlmd.loop);
@@ -141,8 +148,9 @@ static void on_heard(uv_stream_t *stream, ssize_t len, const uv_buf_t *buffer) {
 }
 
 static void on_end(uv_process_t *process, int64_t status, int number) {
-    (void)process, (void)status, (void)number;
-    fail("the list has ended");
+    (void)process, (void)number;
+    write_log("the list has ended");
+    exit(status == BROKEN_LIST ? BROKEN_LIST : LOST_LIST);
 }
 
 /* The program that keeps the list: that of VLM_LIST in the environment, else the one that is installed beside us. */

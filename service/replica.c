@@ -40,15 +40,15 @@ void replica_close(struct replica *replica) {
     free(replica);
 }
 
-/* A replica that can't go on as the others do ends: it may start anew. */
-void replica_fail(const char *reason) {
+/* Ends a replica that can't go on as the others do. */
+void replica_fail(int status, const char *reason) {
     fprintf(stderr, "vlmd: %s: this replica ends\n", reason);
-    exit(EXIT_FAILURE);
+    exit(status);
 }
 
 void *replica_need(void *memory) {
     if (memory == NULL)
-        replica_fail("no memory");
+        replica_fail(LOST_LIST, "no memory");
     return memory;
 }
 
@@ -208,7 +208,7 @@ static bool run_connected(struct replica *replica, struct peer *peer, struct rea
     rights.has_syslck = (flags & HAS_SYSLCK) != 0;
     rights.is_admin = (flags & IS_ADMIN) != 0;
     if (payload->is_short || place == NULL || *place != NULL)
-        replica_fail("the list has a wrong connection");
+        replica_fail(LOST_LIST, "the list has a wrong connection");
     struct link *link = peer->name == replica->name ? link_of(replica, slot) : NULL;
     *place = replica_need(client_open(replica->dispatcher, &rights, salt, link));
     if (link != NULL)
@@ -280,7 +280,7 @@ static bool run_gone(struct replica *replica, struct reader *payload) {
     if (peer == NULL || peer->last != last || peer->is_gone)
         return false;
     if (name == replica->name && !replica->is_leaving)
-        replica_fail("the others have not heard of it for too long");
+        replica_fail(LOST_LIST, "the others have not heard of it for too long");
     peer->is_gone = true;
     if (name == replica->name) {
         /* (its clients still get what was answered) */
@@ -337,7 +337,7 @@ static bool run_entry(struct replica *replica, struct peer *peer, struct entry *
     case ENTRY_LIMITS: return run_limits(replica, payload);
     case ENTRY_DRAINED: return run_drained(replica);
     }
-    replica_fail("the list has an entry of a later version");
+    replica_fail(LOST_LIST, "the list has an entry of a later version");
     return false;
 }
 
@@ -355,7 +355,7 @@ bool replica_apply(struct replica *replica, uint64_t revision, const struct byte
     bool is_new = head.number > peer->last && !peer->is_gone;
     /* (a chunk leaves batches out) */
     if (is_new && kept != NULL && head.number != peer->last + 1)
-        replica_fail("the list lacks a batch");
+        replica_fail(BROKEN_LIST, "the list lacks a batch");
     if (is_new)
         peer->last = head.number;
     peer->heard = replica->now;
@@ -368,6 +368,6 @@ bool replica_apply(struct replica *replica, uint64_t revision, const struct byte
             bytes_add(kept, entry.head, entry.len);
     }
     if (reader.is_short)
-        replica_fail("the list has a batch that no replica has made");
+        replica_fail(LOST_LIST, "the list has a batch that no replica has made");
     return head.replica == replica->name;
 }

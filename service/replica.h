@@ -16,6 +16,10 @@
 
 struct replica;
 
+/* Exit statuses: a replica that can't go on and may start again, and one whose list is not what it was. What is left of
+ * that list may grant what others hold. */
+enum { LOST_LIST = 1, BROKEN_LIST = 3 };
+
 /* A connection of a client to this replica. */
 struct link;
 

@@ -53,7 +53,7 @@ struct replica {
 };
 
 /* replica.c */
-void replica_fail(const char *reason) __attribute__((noreturn));
+void replica_fail(int status, const char *reason) __attribute__((noreturn));
 void *replica_need(void *memory);
 
 /* links.c */

@@ -45,13 +45,9 @@ _PASSING = {grpc.StatusCode.UNAVAILABLE, grpc.StatusCode.DEADLINE_EXCEEDED, grpc
 _FINAL = {grpc.StatusCode.OUT_OF_RANGE, grpc.StatusCode.INVALID_ARGUMENT}
 
 
-class GoneBack(Exception):
-    """etcd has lost what it had told: it was restored, or its members have lost their disks. The replicas' states are
-    of a list that is no more."""
-
-
-class Hole(Exception):
-    """The list lacks a part."""
+class Broken(Exception):
+    """The list is not what it was, so a replica that starts on it may grant what others hold: etcd was restored, its
+    members have lost their disks, or somebody has deleted keys."""
 
 
 class TooLong(Exception):
@@ -181,7 +177,7 @@ class EtcdList:
             if not found:
                 return
             if found[0].key != key.encode():
-                raise Hole(f"the list lacks chunk {known + 1}")
+                raise Broken(f"the list lacks chunk {known + 1}")
             known += 1
             covered, batches = unpack(found[0].value)
             yield Chunk(known, covered, batches)
@@ -289,7 +285,7 @@ class Watch:
                 self._store.leave("watch", self._member)
                 time.sleep(_PAUSE)
                 if self._store.revision() < self._revision - 1:
-                    raise GoneBack from None
+                    raise Broken("etcd has lost what it had told") from None
                 continue
             if response.compact_revision:
                 self.cancel()

@@ -22,7 +22,7 @@ import grpc  # noqa: E402
 from etcd3 import etcdrpc  # noqa: E402
 import etcd_list  # noqa: E402
 from chunks import Batch, Log, ahead, pack, unpack  # noqa: E402
-from etcd_list import Chunk, Compacted, EtcdList, GoneBack, Hole  # noqa: E402
+from etcd_list import Broken, Chunk, Compacted, EtcdList  # noqa: E402
 from members import Place  # noqa: E402
 
 vlm_list = SourceFileLoader("vlm_list", str(LIST / "vlm-list")).load_module("vlm_list")
@@ -124,13 +124,13 @@ class Members(unittest.TestCase):
     def test_a_watch_that_ends_finds_that_etcd_has_gone_back(self):
         watch = self.store.watch(3)  # (the members have revision 1)
         with mock.patch("etcd_list.etcdrpc.WatchStub", lambda _: SimpleNamespace(Watch=lambda *_, **__: iter([]))):
-            self.assertRaises(GoneBack, watch.next)
+            self.assertRaises(Broken, watch.next)
 
     def test_a_chunk_that_is_not_there_is_missed(self):
         found = SimpleNamespace(kvs=[SimpleNamespace(key=b"vlm/packed/00000002", value=pack([placed(1, 1, 1)]))])
         with mock.patch.object(self.store, "_range", return_value=found):
             self.assertEqual([it.number for it in itertools.islice(self.store._unpacked(1, 9), 1)], [2])
-            self.assertRaises(Hole, next, self.store._unpacked(0, 9))
+            self.assertRaises(Broken, next, self.store._unpacked(0, 9))
 
     def test_a_page_of_the_longest_batches_fits_into_an_answer(self):
         longest = (512 << 10) + (1 << 16) + 1024
@@ -359,7 +359,7 @@ class Keeping(unittest.TestCase):
     def test_an_append_that_is_older_than_what_was_told_ends_the_list(self):
         self.store.append = lambda *_: 1
         self.keeper._batches.put(b"batch")
-        self.assertRaises(GoneBack, self.keeper._append)
+        self.assertRaises(Broken, self.keeper._append)
 
     def test_a_part_of_a_frame_is_not_heard(self):
         whole, heard = struct.pack("<I", 6) + b"abatch", []

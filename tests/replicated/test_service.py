@@ -294,7 +294,7 @@ class Lost(unittest.TestCase):
             local.start_replica(1)
             # (the next batch of the other replica is not its first)
             self.assertNotEqual(there.ask("enq P EX name=B block=1"), None)
-            self.assertEqual(local.processes["replica 1"].wait(PATIENCE), 1)
+            self.assertEqual(local.processes["replica 1"].wait(PATIENCE), 3)
             self.assertIn("the list lacks a batch", (local.folder / "replica 1.log").read_text())
 
 
