@@ -36,7 +36,7 @@ _PRESENT = 0.5
 _OPTIONS = [("grpc.max_receive_message_length", 1 << 26), ("grpc.keepalive_time_ms", 10_000),
             ("grpc.keepalive_timeout_ms", 3_000), ("grpc.initial_reconnect_backoff_ms", 200),
             ("grpc.max_reconnect_backoff_ms", 1_000)]
-# How many batches a page has that is read, or one of batches so long that they do not fit into an answer, and how long a
+# How many batches a page has that is read, or one of batches so long that more do not fit into an answer; how long a
 # member may take to send a page; how many keys a transaction deletes: etcd's limit is 128.
 _PAGE, _SHORT_PAGE, _PAGE_SECONDS, _DELETED = 500, 32, 20.0, 100
 _PASSING = {grpc.StatusCode.UNAVAILABLE, grpc.StatusCode.DEADLINE_EXCEEDED, grpc.StatusCode.INTERNAL,
