@@ -138,12 +138,16 @@ bool read_config(const char *file, bool must_be_there, struct config *config) {
         number++;
         is_right = read_line(&read, line);
     }
+    bool is_whole = ferror(from) == 0;
     fclose(from);
-    if (is_right) {
+    if (is_right && is_whole) {
         *config = read;
         return true;
     }
-    snprintf(text, sizeof text, "%s line %u: no such setting, or a wrong value", file, number);
+    if (is_whole)
+        snprintf(text, sizeof text, "%s line %u: no such setting, or a wrong value", file, number);
+    else
+        snprintf(text, sizeof text, "%s can't be read", file);
     write_log(text);
     return false;
 }

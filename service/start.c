@@ -47,6 +47,24 @@ static int from_systemd(void) {
     return SYSTEMD_DESCRIPTOR;
 }
 
+/* Takes away the socket that a daemon left when it was killed. All else stays: a file that is no socket, and a socket
+ * that somebody listens to, such as systemd's for a daemon whose state file is elsewhere. */
+static bool make_way(const struct sockaddr_un *address) {
+    struct stat there;
+    if (lstat(address->sun_path, &there) != 0)
+        return errno == ENOENT;
+    errno = S_ISDIR(there.st_mode) ? EISDIR : EEXIST;
+    if (!S_ISSOCK(there.st_mode))
+        return false;
+    int asked = socket(AF_UNIX, SOCK_STREAM | SOCK_CLOEXEC | SOCK_NONBLOCK, 0);
+    if (asked < 0)
+        return false;
+    bool is_left = connect(asked, (const struct sockaddr *)address, sizeof *address) != 0 && errno == ECONNREFUSED;
+    close(asked);
+    errno = EADDRINUSE;
+    return is_left && unlink(address->sun_path) == 0;
+}
+
 int open_listener(const struct config *config, bool *is_own) {
     int given = from_systemd();
     *is_own = given < 0;
@@ -54,12 +72,11 @@ int open_listener(const struct config *config, bool *is_own) {
         return given;
     struct sockaddr_un address = {.sun_family = AF_UNIX};
     snprintf(address.sun_path, sizeof address.sun_path, "%s", config->socket);
+    if (!make_way(&address))
+        return fail("is in the way", config->socket);
     int made = socket(AF_UNIX, SOCK_STREAM | SOCK_CLOEXEC | SOCK_NONBLOCK, 0);
     if (made < 0)
         return fail("can't be made", "a socket");
-    /* (no other daemon has it: the state file beside it is taken) */
-    if (unlink(config->socket) != 0 && errno != ENOENT)
-        return fail("is in the way", config->socket);
     mode_t before = umask(0777 & ~config->mode);
     int bound = bind(made, (const struct sockaddr *)&address, sizeof address);
     umask(before);
@@ -153,7 +170,7 @@ int take_state(const char *socket, uint32_t *epoch, bool *was_unclean) {
         snprintf(name, sizeof name, "%s.state", socket);
     if (folder == NULL)
         make_folder(socket);
-    int descriptor = open(name, O_RDWR | O_CREAT | O_CLOEXEC, 0600);
+    int descriptor = open(name, O_RDWR | O_CREAT | O_NOFOLLOW | O_CLOEXEC, 0600);
     if (descriptor < 0)
         return fail("can't be opened", name);
     if (flock(descriptor, LOCK_EX | LOCK_NB) != 0)

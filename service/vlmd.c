@@ -3,6 +3,7 @@
 #define _GNU_SOURCE
 #include "names.h"
 
+#include <fcntl.h>
 #include <getopt.h>
 #include <sched.h>
 #include <signal.h>
@@ -285,9 +286,10 @@ static bool set_named(const char *setting, char *text) {
 }
 
 static bool set_socket(const char *path) {
-    bool fits = snprintf(vlmd.config.socket, PATH, "%s", path) < PATH;
+    /* (an empty path would be a socket without a file, and so without a mode) */
+    bool fits = path[0] != 0 && snprintf(vlmd.config.socket, PATH, "%s", path) < PATH;
     if (!fits)
-        write_log("the path of the socket has more than 107 bytes");
+        write_log("the path of the socket has no bytes, or more than 107");
     return fits;
 }
 
@@ -315,6 +317,17 @@ static void raise_limit(void) {
     }
 }
 
+/* Lets standard streams that are closed lead nowhere. Else the state file would come to be standard error, and have the
+ * log in the place of its epoch. */
+static bool open_streams(void) {
+    int made;
+    do
+        made = open("/dev/null", O_RDWR);
+    while (made >= 0 && made <= STDERR_FILENO);
+    close(made);
+    return made >= 0;
+}
+
 static bool start(void) {
     bool was_unclean, is_replica = vlmd.config.etcd[0] != 0;
     loop.state = take_state(vlmd.config.socket, &loop.epoch, &was_unclean);
@@ -333,6 +346,10 @@ static bool start(void) {
 }
 
 int main(int count, char **words) {
+    if (!open_streams())
+        return NO_START;
+    /* (until the loop hears of it: the configuration is being read) */
+    signal(SIGHUP, SIG_IGN);
     vlmd.file = usual_file;
     if (!read_words(count, words)) {
         write_log("usage: vlmd [-c FILE] [-s SOCKET] [--etcd MEMBERS [--prefix WORD] [--listen HOST:PORT]]");

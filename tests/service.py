@@ -479,6 +479,24 @@ def restarted(_program):
             yield from difference(answer.split(" lock")[0], "P: NORMAL")
 
 
+def without_log(_program):
+    """A daemon whose standard error is closed leaves the epoch in the state file, also when it is killed."""
+    folder = Path(tempfile.mkdtemp(dir=ROOM().name))
+    words = ["sh", "-c", 'exec "$@" 2>&-', "sh", PLAIN(), "-c", "/dev/null", "-s", folder / "socket"]
+    daemon = subprocess.Popen(words)
+    answer, until = None, time.monotonic() + 20
+    while answer is None and time.monotonic() < until:
+        try:
+            with Client(f"{folder}/socket") as client:
+                answer = client.ask("alive")
+        except OSError:  # (it does not listen yet)
+            time.sleep(0.02)
+    yield from difference(answer, "no session")
+    daemon.kill()
+    daemon.wait()
+    yield from difference((folder / "socket.state").read_text(), "0000000000 running\n")
+
+
 def one_daemon(_program):
     """A second daemon on the socket does not start."""
     with Daemon() as daemon:
@@ -487,12 +505,29 @@ def one_daemon(_program):
         yield from difference(daemon.client().ask("alive"), "no session")
 
 
+def in_the_way(_program):
+    """A daemon does not start on a file, a folder, or a socket that somebody listens to. It leaves them as they are."""
+    folder = Path(tempfile.mkdtemp(dir=ROOM().name))
+    (folder / "file").write_text("mode 666\n")
+    (folder / "folder").mkdir()
+    with socket.socket(socket.AF_UNIX) as listener:
+        listener.bind(f"{folder}/socket")
+        listener.listen()
+        for name in ("file", "folder", "socket"):
+            ended = subprocess.run([PLAIN(), "-s", folder / name], capture_output=True, text=True, timeout=20)
+            yield from difference((name, ended.returncode, "is in the way" in ended.stderr), (name, 4, True))
+        with socket.socket(socket.AF_UNIX) as other:
+            other.connect(f"{folder}/socket")
+    yield from difference((folder / "file").read_text(), "mode 666\n")
+
+
 def configured(_program):
     """Wrong words and configurations are refused, SIGHUP reads the configuration again, and a full disk for the log
     holds up nobody."""
     replica = ["-s", f"{ROOM().name}/replica", "--etcd", "127.0.0.1:1"]
     for words, status in ((["-x"], 2), (["-c", "/nowhere"], 2), (["here"], 2), (["-s", "/nowhere/to/socket"], 4),
                           (["-s", 120 * "x"], 2), (["--listen", "127.0.0.1:0"], 2), (["--etcd", 300 * "x"], 2),
+                          (["-s", ""], 2), (["-c", "/", "-s", f"{ROOM().name}/unread"], 2),
                           ([*replica, "--listen", "127.0.0.1"], 4), ([*replica, "--listen", "0.0.0.0:0"], 4)):
         ended = subprocess.run([PLAIN(), *words], capture_output=True, text=True, timeout=20)
         yield from difference((words, ended.returncode), (words, status))
@@ -513,6 +548,15 @@ def configured(_program):
             client.ask("enq P NL name=A block=1")
             answer = client.ask("enq P NL name=A block=1")
             yield from difference((setting, answer), (setting, "P: EXENQLM"))
+
+
+def linked(_program):
+    """A daemon writes to no file that a link in the place of its state file leads to: another user may have made it."""
+    folder = Path(tempfile.mkdtemp(dir=ROOM().name))
+    (folder / "file").write_text("a file with more than 19 bytes\n")
+    (folder / "socket.state").symlink_to(folder / "file")
+    ended = subprocess.run([PLAIN(), "-s", folder / "socket"], capture_output=True, text=True, timeout=20)
+    yield from difference((ended.returncode, (folder / "file").read_text()), (4, "a file with more than 19 bytes\n"))
 
 
 # Starts a daemon with its listening socket at descriptor 3, and tells it that the socket is its own.
@@ -760,17 +804,19 @@ def clients(compiler, sanitizer, _program):
     yield from wrong or library.ran(made, PLAIN(), config, Path(folder) / "socket")
 
 
-BEHAVIOURS = {"the first session of the page": shown_talk, "half lines": half_lines, "killed clients": killed,
+BEHAVIOURS = {"a daemon without a log": without_log,
+              "the first session of the page": shown_talk, "half lines": half_lines, "killed clients": killed,
               "a client that reads no answers": deaf, "a client that reads no ASTs": cut_off,
               "many long answers": long_answers, "many lines of one client": fair, "limits of a user": limits,
               "what show and who print": shown, "readings of single locks": readings,
               "sessions that are resumed": resumed, "repeated steps": repeated, "processes of another session": hidden,
-              "a daemon that ends": restarted, "a second daemon": one_daemon, "configurations": configured,
+              "a daemon that ends": restarted, "a second daemon": one_daemon, "what is in the way": in_the_way,
+              "configurations": configured,
               "a daemon of systemd": under_systemd, "a deadlock": deadlocked, "no searches": not_searched,
               "a daemon that stays awake": awake,
               "a change of managers": changed, "no identifications left": drained, "10,000 idle connections": idle,
               "a storm of clients": stormy, "mutated lines": mutated,
-              "replicas in one program": lists}
+              "replicas in one program": lists, "a link for the state file": linked}
 
 
 def installed(_program):
