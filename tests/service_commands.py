@@ -3,7 +3,9 @@ outside witness sees that no two commands hold a lock at once: each takes a lock
 
 import json
 import os
+import pty
 import re
+import select
 import signal
 import socket
 import subprocess
@@ -288,6 +290,25 @@ def replicas_lost(_program):
         yield from difference(wrapper.communicate(timeout=SECONDS)[0], "told\n")
 
 
+def unprinted():
+    """An answer that can't be printed, or that ends early, is told as such."""
+    with Daemon() as daemon, open("/dev/full", "w") as full:
+        for words in (["who"], ["who", "--json"], ["metrics"]):
+            made = subprocess.run([VLM(), *words], stdout=full, stderr=subprocess.PIPE, text=True, timeout=SECONDS,
+                                  env={**os.environ, "VLM_SOCKET": daemon.socket})
+            yield from difference((words, made.returncode, made.stderr),
+                                  (words, 69, "vlm: standard output can't be written\n"))
+    with tempfile.TemporaryDirectory() as folder, socket.socket(socket.AF_UNIX) as listener:
+        listener.bind(f"{folder}/socket")
+        listener.listen()
+        command = start(None, "metrics", socket=f"{folder}/socket")
+        with listener.accept()[0] as client:
+            client.sendall(b"vlm protocol 1 epoch 0\nvlmd_locks 2\n")
+            client.recv(100)
+        told = command.communicate(timeout=SECONDS)
+        yield from difference((command.returncode, *told), (69, "vlmd_locks 2\n", "vlm: the service has gone\n"))
+
+
 def told(_program):
     """What who, metrics and kill print."""
     with Daemon() as daemon:
@@ -310,6 +331,7 @@ def told(_program):
         for words in (["kill"], ["kill", "1"], ["kill", "--connect"], ["metrics", "--all"], ["metrics", "all"],
                       ["who", "A", "B"], ["who", "-x"], ["who", "a b"]):
             yield from difference((words, run(daemon, *words)[0]), (words, 64))
+    yield from unprinted()
 
 
 def front(_program):
@@ -318,6 +340,22 @@ def front(_program):
         for words in (["play"], ["--help"], [], ["frob", "lock"]):
             yield from difference((words, run(daemon, *words)), (words, (3, f"program: {' '.join(words)}\n")))
         yield from difference(run(daemon, "lock", "--help")[0], 0)
+
+
+def turned_away(_program):
+    """A command says why it is not let in: its user has no group, or nobody greets it."""
+    with Daemon("group 54321 5") as daemon:
+        yield from difference(run(daemon, "who"), (69, f"vlm: {daemon.socket}: no group\n"))
+    with tempfile.TemporaryDirectory() as folder, socket.socket(socket.AF_UNIX) as listener:
+        listener.bind(f"{folder}/socket")
+        listener.listen()
+        for greeting, wanted in ((b"", ": vlmd does not answer: its log may say why"),
+                                 (b"vlm protocol 2 epoch 0\n", " speaks another protocol")):
+            command = start(None, "who", socket=f"{folder}/socket")
+            with listener.accept()[0] as client:
+                client.sendall(greeting)
+            told = command.communicate(timeout=SECONDS)[1]
+            yield from difference((command.returncode, told), (69, f"vlm: {folder}/socket{wanted}\n"))
 
 
 def by_launcher(_program):
@@ -340,12 +378,43 @@ def completed(_program):
         yield from difference((words, made.stdout.strip(), made.stderr), (words, wanted, ""))
 
 
+def typed(keys, env, folder):
+    """What an interactive bash with the completion has in its line after these keys."""
+    run, terminal = pty.fork()
+    if run == 0:
+        os.chdir(folder)
+        os.execvpe("bash", ["bash", "--norc", "--noprofile", "-i"], {**os.environ, **env, "TERM": "dumb", "PS1": "> "})
+    os.write(terminal, f". '{TOP}/service/commands/completion.bash'\n{keys}\x01echo '[\x05]'\nexit\n".encode())
+    text, until = b"", time.monotonic() + SECONDS
+    while select.select([terminal], [], [], max(0, until - time.monotonic()))[0]:
+        try:
+            text += os.read(terminal, 65536)
+        except OSError:  # (bash has ended)
+            break
+    os.kill(run, signal.SIGKILL)
+    os.close(terminal)
+    os.waitpid(run, 0)
+    return re.findall(r"^\[(.*)\]\r?$", text.decode(), re.M)
+
+
+def completed_in_bash(_program):
+    """In a bash a file's name is completed as a word of its own, and a service that says nothing holds nobody up."""
+    with tempfile.TemporaryDirectory() as folder, socket.socket(socket.AF_UNIX) as silent:
+        (Path(folder) / "my file").touch()
+        silent.bind(f"{folder}/silent")
+        silent.listen()
+        env = {"VLM_SOCKET": f"{folder}/silent", "PATH": f"{VLM().parent}:{os.environ['PATH']}"}
+        yield from difference(typed("vlm lock A ./my\t", env, folder), ["vlm lock A ./my\\ file "])
+        yield from difference(typed("vlm kill \t", env, folder), ["vlm kill "])
+
+
 def tests():
-    checks = {"statuses of vlm lock": statuses, "the value block of vlm lock": values, "signals to commands": blocking,
+    checks = {"commands that are not let in": turned_away,
+              "statuses of vlm lock": statuses, "the value block of vlm lock": values, "signals to commands": blocking,
               "signals at the start": blocking_at_start, "the token of vlm lock": tokens,
               "a service without tokens": no_tokens, "locks that are lost": lost, "commands at replicas": replicated,
               "locks at replicas that are lost": replicas_lost, "killed commands": killed,
               "commands and a witness": witnessed,
               "vlm who, metrics and kill": told, "words of the program": front, "./vlm lock": by_launcher,
-              "completion": completed}
+              "completion": completed, "completion in bash": completed_in_bash}
     return [Test(name, check) for name, check in checks.items()]

@@ -15,12 +15,13 @@ _vlm() {
             if [[ $current == -* ]]; then
                 mapfile -t COMPREPLY < <(compgen -W '--connect -m -n -w -E --value --on-blocking --help' -- "$current")
             else
+                compopt -o filenames 2>/dev/null
                 mapfile -t COMPREPLY < <(compgen -A command -A file -- "$current")
             fi
             ;;
         kill,*)
             [[ $current == -* ]] && COMPREPLY=(--connect) && return
-            sessions=$(vlm who 2>/dev/null | awk 'NR > 1 {print $5}' | sort -u)
+            sessions=$(timeout 2 vlm who 2>/dev/null | awk 'NR > 1 {print $5}' | sort -u)
             mapfile -t COMPREPLY < <(compgen -W "$sessions" -- "$current")
             ;;
         metrics,*) [[ $current == -* ]] && COMPREPLY=(--connect) ;;

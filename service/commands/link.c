@@ -18,7 +18,8 @@
 /* How long a replica may take, in milliseconds. */
 enum { PATIENCE = 3000 };
 
-static const char usual_socket[] = "/run/vlm/lock.sock", greeting[] = "vlm protocol 1 ", no_rights[] = "no rights";
+static const char usual_socket[] = "/run/vlm/lock.sock", greeting[] = "vlm protocol 1 ", no_rights[] = "no rights",
+                  no_group[] = "no group";
 
 const char *usual_address(void) {
     const char *address = getenv("VLM_SOCKET");
@@ -34,6 +35,14 @@ int64_t milliseconds(void) {
 int wrong_words(const char *usage) {
     fprintf(stderr, "usage: %s\n", usage);
     return WRONG_WORDS;
+}
+
+int end_output(int got) {
+    bool is_written = fflush(stdout) == 0 && ferror(stdout) == 0;
+    if (got == 1 && is_written)
+        return 0;
+    fprintf(stderr, "vlm: %s\n", got == 1 ? "standard output can't be written" : "the service has gone");
+    return NO_SERVICE;
 }
 
 int read_address(int count, char **words, const char **address) {
@@ -94,12 +103,13 @@ int link_line(struct link *link, char *line, int64_t until) {
     return 1;
 }
 
-/* Reads the greeting. Returns false if another protocol is spoken, or nobody answers. */
-static bool is_greeted(struct link *link, int64_t until) {
-    char line[LINE_ROOM];
-    bool is_heard = link_line(link, line, until) == 1;
-    link->is_refused = is_heard && strcmp(line, no_rights) == 0;
-    return is_heard && strncmp(line, greeting, strlen(greeting)) == 0;
+/* Reads the greeting, or the line in its place: none if nobody answers. Returns false if it is no greeting, or one of
+ * another protocol. */
+static bool is_greeted(struct link *link, char *line, int64_t until) {
+    if (link_line(link, line, until) != 1)
+        line[0] = 0;
+    link->is_refused = strcmp(line, no_rights) == 0;
+    return strncmp(line, greeting, strlen(greeting)) == 0;
 }
 
 /* A socket that is none of the standard streams. In the place of a closed one, the command of `vlm lock` would have it.
@@ -126,9 +136,13 @@ static bool open_socket(struct link *link, const char *path) {
         fprintf(stderr, "vlm: %s: %s: is vlmd running?\n", path, strerror(errno));
         return false;
     }
-    if (is_greeted(link, FOREVER))
+    char line[LINE_ROOM];
+    if (is_greeted(link, line, FOREVER))
         return true;
-    fprintf(stderr, "vlm: %s speaks another protocol\n", path);
+    if (line[0] == 0 || strcmp(line, no_group) == 0)
+        fprintf(stderr, "vlm: %s: %s\n", path, line[0] == 0 ? "vlmd does not answer: its log may say why" : line);
+    else
+        fprintf(stderr, "vlm: %s speaks another protocol\n", path);
     return false;
 }
 
@@ -143,7 +157,8 @@ static bool is_begun(struct link *link, const char *host, struct asking *asking)
     const struct handshake how = {asking->keys, host, -1, vlmc_now() + PATIENCE, asking->reason};
     if (asking->keys != NULL && !vlmc_shake_hands(&link->channel, &how))
         return false;
-    if (is_greeted(link, milliseconds() + PATIENCE))
+    char line[LINE_ROOM];
+    if (is_greeted(link, line, milliseconds() + PATIENCE))
         return true;
     const char *why = vlmc_channel_reason(&link->channel);
     snprintf(asking->reason, sizeof asking->reason, "%s", why != NULL ? why : link->is_refused ? no_rights : "");

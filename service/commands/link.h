@@ -40,6 +40,10 @@ bool link_send(const struct link *link, const char *text);
  * line, 0 if the time has passed, and -1 if the service has gone. */
 int link_line(struct link *link, char *line, int64_t until);
 
+/* Ends what is printed of an answer, whose last line was read as `got` tells. Returns the exit status, and says what is
+ * wrong. */
+int end_output(int got);
+
 /* The time of a clock that never goes back, in milliseconds. */
 int64_t milliseconds(void);
 

@@ -43,8 +43,8 @@ static int run_proof(int count, char **words) {
         fprintf(stderr, "vlm: %s can't be read\n", path);
         return NO_SERVICE;
     }
-    bool is_written = fwrite(bytes, 1, len, stdout) == len && fflush(stdout) == 0;
-    return is_written ? 0 : NO_SERVICE;
+    fwrite(bytes, 1, len, stdout);
+    return end_output(1);
 }
 
 int main(int count, char **words) {

@@ -89,7 +89,7 @@ static int print_rows(struct link *link, const struct shown *shown) {
     }
     if (shown->is_json)
         printf(is_first ? "]\n" : "\n]\n");
-    return got == 1 && fflush(stdout) == 0 ? 0 : NO_SERVICE;
+    return end_output(got);
 }
 
 int run_who(int count, char **words) {
@@ -133,7 +133,7 @@ int run_metrics(int count, char **words) {
     int got;
     while ((got = link_line(&link, line, FOREVER)) == 1 && line[0] != 0)
         puts(line);
-    return got == 1 && fflush(stdout) == 0 ? 0 : NO_SERVICE;
+    return end_output(got);
 }
 
 int run_kill(int count, char **words) {
