@@ -228,11 +228,15 @@ def upgrades(root):
 
 
 def leaves(root):
-    """A removal leaves the configuration alone, and a purge nothing."""
+    """A removal leaves the configuration alone, and a purge nothing: also not what `systemctl enable` has made."""
+    wants = "etc/systemd/system/multi-user.target.wants"
+    root.need(f"mkdir -p /{wants} && ln -s /lib/systemd/system/vlmd.service /{wants}")
     root.need("apt-get remove " + " ".join(DEBIAN))
     left = [name for name in root.paths("vlm") if not name.startswith("var/lib/dpkg/info/vlm.")]
-    yield from difference(left, ["etc/systemd/system/sockets.target.wants/vlmd.socket", "etc/vlmd.conf",
+    yield from difference(left, [f"{wants}/vlmd.service",
+                                 "etc/systemd/system/sockets.target.wants/vlmd.socket", "etc/vlmd.conf",
                                  "var/lib/systemd/deb-systemd-helper-enabled/sockets.target.wants/vlmd.socket",
+                                 "var/lib/systemd/deb-systemd-helper-enabled/vlmd.service.dsh-also",
                                  "var/lib/systemd/deb-systemd-helper-enabled/vlmd.socket.dsh-also"])
     root.need("apt-get purge vlm")
     yield from difference(root.paths("vlm"), [])
@@ -352,6 +356,7 @@ def is_served(machine):
     yield from difference(machine.run("systemctl is-active vlmd.socket vlmd.service").stdout, "active\ninactive\n")
     yield from difference(machine.run("vlm lock backup echo mine", "user").stdout, "mine\n")
     yield from difference(machine.run("systemctl is-active vlmd.socket vlmd.service").stdout, "active\nactive\n")
+    yield from difference(machine.run("systemctl reload vlmd").stdout, "")
     yield from difference(machine.run("vlm lock backup echo mine", "stranger").returncode, 69)
 
 

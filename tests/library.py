@@ -370,6 +370,23 @@ target_link_libraries(static vlm::static)
 """
 
 
+def refused_by_cmake(_program):
+    """CMake takes no later version than a range has, and no component that is not there."""
+    later, project = room() / "a later version", room() / "a project that asks"
+    shutil.copytree(prefix() / "lib" / "cmake", later / "lib" / "cmake")
+    file = later / "lib" / "cmake" / "vlm" / "vlm-config-version.cmake"
+    file.write_text(file.read_text().replace(f'"{version()}"', '"0.2.5"'))
+    project.mkdir()
+    for asked, is_found in (("0.2...0.2.5", True), ("0.2...<0.3", True), ("0.2...<0.2.5", False),
+                            ("0.2...0.2.4", False), ("0.2 COMPONENTS threads", False),
+                            ("0.2 OPTIONAL_COMPONENTS threads", True)):
+        (project / "CMakeLists.txt").write_text("cmake_minimum_required(VERSION 3.19)\nproject(example C)\n"
+                                                f"find_package(vlm {asked})\nmessage(STATUS found=${{vlm_FOUND}}.)\n")
+        made = subprocess.run(["cmake", "-S", project, "-B", project / "built", f"-DCMAKE_PREFIX_PATH={later}"],
+                              capture_output=True, text=True, timeout=SECONDS)
+        yield from difference((asked, "found=1." in made.stdout, made.returncode), (asked, is_found, 0))
+
+
 def by_cmake(_program):
     """What is wrong with programs that CMake links, from a copy of the prefix in another place."""
     moved, project, built = room() / "a moved prefix", room() / "a project", room() / "built by CMake"
@@ -579,7 +596,7 @@ def once():
         found += [Test(f"pkg-config and {compiler}", partial(by_package, compiler))
                   for compiler in COMPILERS if shutil.which(compiler)]
     if shutil.which("cmake"):
-        found.append(Test("CMake", by_cmake))
+        found += [Test("CMake", by_cmake), Test("what CMake refuses", refused_by_cmake)]
     if shutil.which("cargo"):
         found.append(Test("cargo test of bindings/rust", rust))
     return found

@@ -45,6 +45,13 @@ if(NOT TARGET vlm::vlm)
     INTERFACE_LINK_LIBRARIES "Threads::Threads;${{CMAKE_DL_LIBS}}")
 endif()
 unset(_vlm_prefix)
+foreach(_vlm_asked IN LISTS vlm_FIND_COMPONENTS)
+  if(vlm_FIND_REQUIRED_${{_vlm_asked}})
+    set(vlm_FOUND FALSE)
+    set(vlm_NOT_FOUND_MESSAGE "vlm has no component ${{_vlm_asked}}: its targets are vlm::vlm and vlm::static")
+  endif()
+endforeach()
+unset(_vlm_asked)
 """
 
 # A version fits a program that asks for one that is not later, with the same first two numbers.
@@ -52,6 +59,9 @@ CMAKE_VERSION = """set(PACKAGE_VERSION "{version}")
 string(REGEX MATCH "^[0-9]+[.][0-9]+" _vlm_asked "${{PACKAGE_FIND_VERSION}}")
 if(NOT CMAKE_SIZEOF_VOID_P EQUAL 8)
   set(PACKAGE_VERSION_UNSUITABLE TRUE)
+elseif(PACKAGE_FIND_VERSION_RANGE_MAX STREQUAL "INCLUDE" AND PACKAGE_VERSION VERSION_GREATER PACKAGE_FIND_VERSION_MAX
+    OR PACKAGE_FIND_VERSION_RANGE_MAX STREQUAL "EXCLUDE" AND NOT PACKAGE_VERSION VERSION_LESS PACKAGE_FIND_VERSION_MAX)
+  set(PACKAGE_VERSION_COMPATIBLE FALSE)
 elseif(PACKAGE_FIND_VERSION VERSION_EQUAL PACKAGE_VERSION)
   set(PACKAGE_VERSION_EXACT TRUE)
   set(PACKAGE_VERSION_COMPATIBLE TRUE)
