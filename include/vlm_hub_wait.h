@@ -115,7 +115,8 @@ enum { VLM_LEAST_CAPACITY = 32 };
  * NORMAL: it was stopped. Posts that it has not made stay at their ports.
  * INSFMEM: the journal got no more memory. Nothing is lost: cut, and call it again.
  * IVBUFLEN: the journal had more than `capacity` entries at the start.
- * BADPARAM: the service is malformed, or has a closed hub or a closed bell.
+ * BADPARAM: the service is malformed, or has a closed hub, or its own bell is closed. A closed bell of a node is not
+ * rung: its thread looks for items by itself.
  * Any other value is what keep returned instead of NORMAL. */
 uint32_t vlm_hub_run(vlm_hub_service *service);
 

@@ -307,8 +307,9 @@ uint32_t vlm_threads_fd(vlm_threads *layer, int *descriptor);
  * BADPARAM: the layer runs the routines itself; *delivered is 0. */
 uint32_t vlm_threads_dispatch(vlm_threads *layer, uint32_t *delivered);
 
-/* The same for a process with `own_queue`, whoever runs the routines of the layer's queue. A slow routine stalls only
- * its own process then. The descriptor is closed when the process ends: stop polling it before a rundown.
+/* Tell the file descriptor of the queue of a process with `own_queue`, and run its routines, as vlm_threads_fd and
+ * vlm_threads_dispatch do for the layer's queue, whoever runs the routines of that. A slow routine stalls only its own
+ * process then. The descriptor is closed when the process ends: stop polling it before a rundown.
  * BADPARAM: the process has no queue of its own. NONEXPR, DEPARTED: as vlm_threads_rundown. */
 uint32_t vlm_threads_process_fd(vlm_threads *layer, uint32_t pid, int *descriptor);
 uint32_t vlm_threads_process_dispatch(vlm_threads *layer, uint32_t pid, uint32_t *delivered);

@@ -366,6 +366,14 @@ class Command(unittest.TestCase):
                                    stderr=subprocess.PIPE, cwd=HERE.parent)
         self.assertEqual((ended.returncode, ended.stderr), (3, b"write\n"))
 
+    @unittest.skipUnless(os.path.exists("/dev/full"), "there is no /dev/full")
+    def test_what_cannot_be_told(self):
+        for target in ("/dev/full", "&-"):
+            for words, status in ((["no/such/file"], 3), (["--svg", "1", "-"], 1), (["--svg", "7", "-"], 2)):
+                ended = subprocess.run(["sh", "-c", f'exec "$@" 2>{target}', "sh", *DRAW, *words], input=b"frob\n",
+                                       stdout=subprocess.PIPE, cwd=HERE.parent)
+                self.assertEqual((target, ended.returncode, ended.stdout), (target, status, b""))
+
     def test_an_empty_script(self):
         self.assertEqual(held_by(drawn(b"")[1])["lines"], [])
 

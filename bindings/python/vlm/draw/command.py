@@ -43,9 +43,20 @@ def main(words: Optional[List[str]] = None) -> int:
         else:
             _write(*_page(script, given.script))
     except Stopped as stopped:
-        print(stopped, file=sys.stderr)
+        _tell(str(stopped))
         return stopped.status
     return 0
+
+
+def _tell(text: str) -> None:
+    """Writes a line to standard error, if it takes one: the status is the same without it."""
+    if sys.stderr is None:
+        return
+    try:
+        print(text, file=sys.stderr, flush=True)
+    except OSError:
+        # What is left in the buffer would be written again at the end of the program.
+        os.dup2(os.open(os.devnull, os.O_WRONLY), sys.stderr.fileno())
 
 
 def _parser() -> argparse.ArgumentParser:
