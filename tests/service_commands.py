@@ -121,6 +121,7 @@ def values(_program):
         client.ask("enq P NL name=A block=1")
         yield from difference(run(daemon, "lock", "--value", VALUE, "A", "true"), (0, ""))
         yield from difference(run(daemon, "lock", "-m", "PR", "A", "sh", "-c", "echo $VLM_VALUE"), (0, VALUE + "\n"))
+        yield from difference(run(daemon, "lock", "-m", "PR", "--value", VALUE, "A", "true")[0], 64)
         client.ask("cvt P @1 EX block=1")
         client.ask("declare Q")
         client.ask("enq Q NL name=A block=1")

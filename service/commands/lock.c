@@ -98,6 +98,11 @@ static bool read_option(int option, struct wanted *wanted) {
     }
 }
 
+/* A lock of another mode would be given up without its value. */
+static bool can_write(const struct wanted *wanted) {
+    return wanted->value == NULL || strcmp(wanted->mode, "PW") == 0 || strcmp(wanted->mode, "EX") == 0;
+}
+
 static bool read_words(int count, char **words, struct wanted *wanted) {
     static const struct option longer[] = {
         {"mode", required_argument, NULL, 'm'},    {"nonblock", no_argument, NULL, 'n'},
@@ -109,7 +114,7 @@ static bool read_words(int count, char **words, struct wanted *wanted) {
         if (!read_option(option, wanted))
             return false;
     wanted->command = words + optind + 1;
-    return count - optind >= 2 && write_name(words[optind], wanted);
+    return can_write(wanted) && count - optind >= 2 && write_name(words[optind], wanted);
 }
 
 /* Starts the command, with the signals as the wrapper was given them. A command that does not have the connection ends
