@@ -164,6 +164,19 @@ module _ (hash : Key → ℕ) (x x' : KeyIndex) (label label' : ℕ → Option H
   differs : (label : ℕ → Option HashedKey) (b : ℕ) (j : HashedKey) → label at ≡ None → label b ≡ Some j → b ≢ at
   differs label b j none is same = none-some j (sym none ∙ ap label (sym same) ∙ is)
 
+  -- no other handle has what the handle has now
+  abbrev IsAlone : Type 0
+  IsAlone = (b : ℕ) (j : HashedKey) → label' at ≡ Some j → label' b ≡ Some j → at ≡ b
+
+  one_each : IsAlone → (a b : ℕ) (j : HashedKey) → label' a ≡ Some j → label' b ≡ Some j → a ≡ b
+  one_each alone a b j here there = elim (cases_eq a at) [
+    | inl a_is ↦ a_is ∙ alone b j (ap label' (sym a_is) ∙ here) there
+    | inr a_other ↦ elim (cases_eq b at) [
+      | inl b_is ↦ sym (b_is ∙ alone a j (ap label' (sym b_is) ∙ there) here)
+      | inr b_other ↦ kept.indexed.apart a b j (sym (rest a a_other) ∙ here) (sym (rest b b_other) ∙ there)
+    ]
+  ]
+
   -- ---- a resource comes
 
   module _ (enters : Enters k at x x') (was : label at ≡ None) (is : label' at ≡ Some k) (fresh : (b : ℕ) → label b ≢ Some k) where
@@ -171,16 +184,10 @@ module _ (hash : Key → ℕ) (x x' : KeyIndex) (label label' : ℕ → Option H
     its_key : (b : ℕ) (j : HashedKey) → b ≡ at → label' b ≡ Some j → k ≡ j
     its_key b j same told = same_Some k j (sym is ∙ ap label' (sym same) ∙ told)
 
-    one_each : (a b : ℕ) (j : HashedKey) → label' a ≡ Some j → label' b ≡ Some j → a ≡ b
-    one_each a b j here there = elim (cases_eq a at) [
-      | inl a_is ↦ elim (cases_eq b at) [
-        | inl b_is ↦ a_is ∙ sym b_is
-        | inr b_other ↦ absurd (fresh b (sym (rest b b_other) ∙ there ∙ ap Some (sym (its_key a j a_is here))))
-      ]
-      | inr a_other ↦ elim (cases_eq b at) [
-        | inl b_is ↦ absurd (fresh a (sym (rest a a_other) ∙ here ∙ ap Some (sym (its_key b j b_is there))))
-        | inr b_other ↦ kept.indexed.apart a b j (sym (rest a a_other) ∙ here) (sym (rest b b_other) ∙ there)
-      ]
+    alone : IsAlone
+    alone b j here there = elim (cases_eq b at) [
+      | inl same ↦ sym same
+      | inr other ↦ absurd (fresh b (sym (rest b other) ∙ there ∙ sym here ∙ is))
     ]
 
     of_entering : (main : Option ℕ) → main_of x k.hash ≡ main → EntersBy main k at x x' → IsIndexed x' label'
@@ -214,7 +221,7 @@ module _ (hash : Key → ℕ) (x x' : KeyIndex) (label label' : ℕ → Option H
               | inr other ↦ inr (entered.0 j ∙ other)
             ]
       ];
-      apart = one_each;
+      apart = one_each alone;
     }
     of_entering (Some before) some entered = record {
       main_is = λ n b told.
@@ -244,7 +251,7 @@ module _ (hash : Key → ℕ) (x x' : KeyIndex) (label label' : ℕ → Option H
               ]
             ]
       ];
-      apart = one_each;
+      apart = one_each alone;
     }
 
     pub hashed_added : k.hash ≡ hash k.key → IsHashed hash x' label'
@@ -265,9 +272,8 @@ module _ (hash : Key → ℕ) (x x' : KeyIndex) (label label' : ℕ → Option H
       hashes = λ b j told. kept.hashes b j (sym (rest b (differs label' b j gone told)) ∙ told);
     }
       where
-        apart' : (a b : ℕ) (j : HashedKey) → label' a ≡ Some j → label' b ≡ Some j → a ≡ b
-        apart' a b j here there = kept.indexed.apart a b j (sym (rest a (differs label' a j gone here))
-            ∙ here) (sym (rest b (differs label' b j gone there)) ∙ there)
+        alone : IsAlone
+        alone b j here there = absurd (none-some j (sym gone ∙ here))
 
         -- what has another label is another
         other_one : (b : ℕ) (j : HashedKey) → label b ≡ Some j → j ≢ k → b ≢ at
@@ -302,7 +308,7 @@ module _ (hash : Key → ℕ) (x x' : KeyIndex) (label label' : ℕ → Option H
                 ]
                 | inr other ↦ inr (left.0 j ∙ other)
               ];
-          apart = apart';
+          apart = one_each alone;
         }
         of_other (Some o) some left =
             let mine = kept.indexed.other_is k o some in
@@ -336,5 +342,5 @@ module _ (hash : Key → ℕ) (x x' : KeyIndex) (label label' : ℕ → Option H
                       | inr apart ↦ inr (left.0.2 j apart ∙ other)
                     ]
                   ];
-              apart = apart';
+              apart = one_each alone;
             }
