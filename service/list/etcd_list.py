@@ -14,7 +14,7 @@ have taken effect although its answer is lost: every call below may be repeated.
 import logging
 import time
 from dataclasses import dataclass
-from typing import Any, Callable, Iterator, List, Optional, Sequence, Tuple, TypeVar
+from typing import Any, Callable, Iterator, List, Optional, Sequence, Set, Tuple, TypeVar
 
 import etcd3
 import grpc
@@ -47,7 +47,7 @@ _FINAL = {grpc.StatusCode.OUT_OF_RANGE, grpc.StatusCode.INVALID_ARGUMENT}
 
 class Broken(Exception):
     """The list is not what it was, so a replica that starts on it may grant what others hold: etcd was restored, its
-    members have lost their disks, or somebody has deleted keys."""
+    members have lost their disks or are of several clusters, or somebody has deleted keys."""
 
 
 class TooLong(Exception):
@@ -108,6 +108,20 @@ class EtcdList:
                          for host, port in pairs]
         self._places = {kind: Place(len(pairs)) for kind in ("append", "read", "watch")}
         self._entries, self._chunks = prefix + "entries/", prefix + "packed/"
+        # The identification that members gave of their cluster.
+        self._clusters: Set[int] = set()
+
+    def note_cluster(self, header: Any) -> None:
+        """Raises Broken if an answer is of another cluster than those before. Two clusters have two lists: replicas of
+        which one asks the first and one the second would each grant what the other has granted."""
+        self._clusters.add(int(header.cluster_id))
+        if len(self._clusters) > 1:
+            raise Broken("members of etcd are of different clusters")
+
+    def compare(self) -> None:
+        """Asks all members that answer of which cluster they are."""
+        for member in range(len(self._clients)):
+            self.is_present(member)
 
     def call(self, kind: str, ask: Callable[[Any], _T]) -> _T:
         """Asks one member after another, until one answers. Raises what they say if all of them refuse."""
@@ -148,9 +162,10 @@ class EtcdList:
         """Whether a member answers. One that does may still have no leader."""
         own = etcdrpc.RangeRequest(key=self._entries.encode(), serializable=True)
         try:
-            self._clients[member].kvstub.Range(own, _PRESENT)
+            answer = self._clients[member].kvstub.Range(own, _PRESENT)
         except grpc.RpcError:
             return False
+        self.note_cluster(answer.header)
         return True
 
     def append(self, name: str, batch: bytes, is_there: Callable[[], bool] = lambda: False) -> Optional[int]:
@@ -158,6 +173,8 @@ class EtcdList:
         not tried again once it is there: etcd may be slower than a call may take."""
         put = self.call("append", lambda client: None if is_there() else
                         client.put(self._entries + name, batch, prev_kv=True))
+        if put is not None:
+            self.note_cluster(put.header)
         return None if put is None or put.HasField("prev_kv") else int(put.header.revision)
 
     def revision(self) -> int:
@@ -215,11 +232,13 @@ class EtcdList:
                 raise
 
         try:
-            return self.call("read", ask)
+            answer = self.call("read", ask)
         except grpc.RpcError as failed:
             if not _is_code(failed, grpc.StatusCode.OUT_OF_RANGE):
                 raise
             raise Compacted from None
+        self.note_cluster(answer.header)
+        return answer
 
     def watch(self, revision: int) -> "Watch":
         """What comes from a revision on."""
@@ -287,6 +306,7 @@ class Watch:
                 if self._store.revision() < self._revision - 1:
                     raise Broken("etcd has lost what it had told") from None
                 continue
+            self._store.note_cluster(response.header)
             if response.compact_revision:
                 self.cancel()
                 raise Compacted

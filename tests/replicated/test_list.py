@@ -29,6 +29,8 @@ vlm_list = SourceFileLoader("vlm_list", str(LIST / "vlm-list")).load_module("vlm
 # How long threads may take to meet.
 PATIENCE = 10.0
 MEMBERS = 3
+# What an answer says of its cluster.
+HEADER = SimpleNamespace(cluster_id=7)
 
 
 class Failed(grpc.RpcError):
@@ -57,12 +59,13 @@ class Member:
     def __init__(self):
         self.kvstub, self.channel, self.has_put = self, self, set()
         self.fails, self.calls = set(), {"append": 0, "read": 0, "presence": 0}
+        self.cluster = HEADER.cluster_id
         self.failure, self.before_failure = Failed, lambda: None
 
     def put(self, key, _value, prev_kv):
         assert prev_kv
         self._call("append")
-        put = etcdrpc.PutResponse(header=etcdrpc.ResponseHeader(revision=9))
+        put = etcdrpc.PutResponse(header=etcdrpc.ResponseHeader(revision=9, cluster_id=self.cluster))
         if key in self.has_put:
             put.prev_kv.create_revision = 8
         self.has_put.add(key)
@@ -70,7 +73,7 @@ class Member:
 
     def Range(self, request, *_):
         self._call("presence" if request.serializable else "read")
-        return SimpleNamespace(header=SimpleNamespace(revision=1), kvs=[])
+        return SimpleNamespace(header=SimpleNamespace(revision=1, cluster_id=self.cluster), kvs=[])
 
     def _call(self, kind):
         self.calls[kind] += 1
@@ -126,6 +129,18 @@ class Members(unittest.TestCase):
         with mock.patch("etcd_list.etcdrpc.WatchStub", lambda _: SimpleNamespace(Watch=lambda *_, **__: iter([]))):
             self.assertRaises(Broken, watch.next)
 
+    def test_a_member_of_another_cluster_is_not_believed(self):
+        for kind in ("append", "read", "presence"):
+            with self.subTest(kind):
+                self.setUp()
+                asks = {"append": lambda: self.store.append("b", b""), "read": self.store.revision,
+                        "presence": self.store.compare}
+                self.store.append("a", b"")
+                self.store.revision()
+                self.members[1].cluster += 1
+                self.members[0].fails = {kind}
+                self.assertRaises(Broken, asks[kind])
+
     def test_a_chunk_that_is_not_there_is_missed(self):
         found = SimpleNamespace(kvs=[SimpleNamespace(key=b"vlm/packed/00000002", value=pack([placed(1, 1, 1)]))])
         with mock.patch.object(self.store, "_range", return_value=found):
@@ -146,7 +161,7 @@ class Members(unittest.TestCase):
             if request.limit == etcd_list._PAGE:
                 raise TooMuch
             found = [it for it in keys if it.create_revision >= request.min_create_revision]
-            return SimpleNamespace(kvs=found[:request.limit])
+            return SimpleNamespace(header=HEADER, kvs=found[:request.limit])
 
         self.members[0].Range = answer
         self.assertEqual([it.revision for it in self.store.batches(1, 99)], list(range(2, 40)))
@@ -200,7 +215,8 @@ def a_batch(name):
     """A watch response with a batch."""
     pair = SimpleNamespace(create_revision=9, mod_revision=9, key=b"vlm/entries/" + name.encode(),
                            value=b"batch")
-    return SimpleNamespace(compact_revision=0, canceled=False, events=[SimpleNamespace(kv=pair, type=0, PUT=0)])
+    return SimpleNamespace(header=HEADER, compact_revision=0, canceled=False,
+                           events=[SimpleNamespace(kv=pair, type=0, PUT=0)])
 
 
 BEAT, LINE = 4, 2
