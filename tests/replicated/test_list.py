@@ -2,6 +2,8 @@
 
 import io
 import itertools
+import logging
+import os
 import random
 import struct
 import sys
@@ -329,6 +331,32 @@ class Ends(unittest.TestCase):
     @staticmethod
     def batch(revision, replica, number, *entries):
         return Batch(revision, "", b"vlmlist1" + struct.pack("<QQ", replica, number) + b"".join(entries))
+
+
+class Said(unittest.TestCase):
+    def said(self, before=b""):
+        """What standard error has after a line, where it is a pipe that has something already. None if that waits."""
+        reader, writer = os.pipe()
+        record = logging.LogRecord("", logging.WARNING, "", 0, "no member of etcd answers", None, None)
+        with open(reader, "rb", 0) as told, mock.patch.object(vlm_list, "_ERRORS", writer):
+            os.set_blocking(writer, False)
+            os.write(writer, before)
+            os.set_blocking(writer, True)
+            saying = threading.Thread(target=vlm_list._Said().emit, args=(record,), daemon=True)
+            saying.start()
+            saying.join(1)
+            has_said = not saying.is_alive()
+            found = told.read(1 << 20)
+            saying.join()
+            os.close(writer)
+        return found if has_said else None
+
+    def test_a_line_is_said(self):
+        self.assertEqual(self.said(), b"vlm-list: no member of etcd answers\n")
+
+    def test_a_log_that_nobody_reads_holds_nothing_up(self):
+        full = b"x" * (1 << 16)
+        self.assertEqual(self.said(full), full)
 
 
 class Keeping(unittest.TestCase):
