@@ -114,11 +114,23 @@ bool set_words(struct config *config, char *const *words, size_t count) {
 static bool read_line(struct config *config, char *line) {
     char *words[WORDS + 1], *rest = NULL;
     size_t count = 0;
-    line[strcspn(line, "#\n")] = 0;
+    line[strcspn(line, "#")] = 0;
     for (char *word = strtok_r(line, " \t\r", &rest); word != NULL; word = strtok_r(NULL, " \t\r", &rest))
         if (count <= WORDS)
             words[count++] = word;
     return count == 0 || set_words(config, words, count);
+}
+
+/* The next line. False at the end of the file. *is_whole is false if it is too long, or has a zero byte, as a crash of
+ * the machine may leave it: its rest, read as a line of its own, might give rights. */
+static bool next_line(FILE *from, char line[LINE], bool *is_whole) {
+    int byte;
+    size_t len = 0;
+    while ((byte = getc(from)) != EOF && byte != '\n' && byte != 0 && len < LINE - 1)
+        line[len++] = (char)byte;
+    line[len] = 0;
+    *is_whole = byte == EOF || byte == '\n';
+    return byte != EOF || len != 0;
 }
 
 bool read_config(const char *file, bool must_be_there, struct config *config) {
@@ -133,18 +145,18 @@ bool read_config(const char *file, bool must_be_there, struct config *config) {
         return false;
     }
     unsigned number = 0;
-    bool is_right = true;
-    while (is_right && fgets(line, sizeof line, from) != NULL) {
+    bool is_right = true, is_whole;
+    while (is_right && next_line(from, line, &is_whole)) {
         number++;
-        is_right = read_line(&read, line);
+        is_right = is_whole && read_line(&read, line);
     }
-    bool is_whole = ferror(from) == 0;
+    bool is_read = ferror(from) == 0;
     fclose(from);
-    if (is_right && is_whole) {
+    if (is_right && is_read) {
         *config = read;
         return true;
     }
-    if (is_whole)
+    if (is_read)
         snprintf(text, sizeof text, "%s line %u: no such setting, or a wrong value", file, number);
     else
         snprintf(text, sizeof text, "%s can't be read", file);
