@@ -17,7 +17,7 @@
 #include <sys/un.h>
 #include <unistd.h>
 
-enum { BACKLOG = 4096, SYSTEMD_DESCRIPTOR = 3, STATE = 32, TEXT = 640, LONGEST_PATH = 512 };
+enum { BACKLOG = 4096, SYSTEMD_DESCRIPTOR = 3, STATE = 32, TEXT = 640, LONGEST_PATH = 512, EPOCHS = 1 << 24 };
 
 void write_log(const char *text) {
     char line[TEXT];
@@ -160,8 +160,19 @@ static void make_folder(const char *socket) {
         fail("can't be made", folder);
 }
 
+/* Reads what the last daemon has left. An empty file is a new one. False if there is something else than a state, or the
+ * epochs are at their end: the next tokens would be smaller than earlier ones. */
+static bool read_state(int descriptor, uint32_t *epoch, bool *was_unclean) {
+    char text[STATE + 1] = "", *end = text;
+    ssize_t len = pread(descriptor, text, STATE, 0);
+    unsigned long last = strtoul(text, &end, 10);
+    *epoch = len > 0 ? (uint32_t)last + 1 : 0;
+    *was_unclean = strstr(text, "running") != NULL;
+    return len == 0 || (text[0] >= '0' && text[0] <= '9' && (*end == ' ' || *end == '\n') && last < EPOCHS - 1);
+}
+
 int take_state(const char *socket, uint32_t *epoch, bool *was_unclean) {
-    char name[LONGEST_PATH], text[STATE + 1] = "";
+    char name[LONGEST_PATH];
     const char *folder = getenv("STATE_DIRECTORY");
     /* (a folder that systemd made for the daemon) */
     if (folder != NULL)
@@ -175,10 +186,9 @@ int take_state(const char *socket, uint32_t *epoch, bool *was_unclean) {
         return fail("can't be opened", name);
     if (flock(descriptor, LOCK_EX | LOCK_NB) != 0)
         return fail("belongs to another daemon", name);
-    ssize_t len = pread(descriptor, text, STATE, 0);
-    unsigned long last = len > 0 ? strtoul(text, NULL, 10) : 0;
-    *epoch = len > 0 ? (uint32_t)last + 1 : 0;
-    *was_unclean = strstr(text, "running") != NULL;
+    errno = EINVAL;
+    if (!read_state(descriptor, epoch, was_unclean))
+        return fail("has no epoch after which tokens go on", name);
     if (!write_state(descriptor, *epoch, true))
         return fail("can't be written", name);
     return descriptor;

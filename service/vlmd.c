@@ -33,6 +33,7 @@ struct daemon vlmd;
 static struct {
     int state;
     uint32_t epoch;
+    bool was_unclean; /* the last daemon has left locks in which its clients may believe */
     int listener, tcp_listeners[MOST_LISTENERS];
     size_t tcp_listener_count;
     bool is_own_listener;
@@ -202,7 +203,7 @@ static void start_loop(void) {
 }
 
 /* Opens the dispatcher. After an unclean end it is quiet for the grace time. */
-static bool start_dispatcher(bool was_unclean) {
+static bool start_dispatcher(void) {
     uint8_t keys[KEYS];
     if (getrandom(keys, sizeof keys, 0) != sizeof keys)
         return false;
@@ -212,11 +213,19 @@ static bool start_dispatcher(bool was_unclean) {
     dispatcher_set_token(vlmd.dispatcher, (uint64_t)loop.epoch << TOKEN_BITS);
     uint64_t now = uv_hrtime() / 1000000;
     dispatcher_tick(vlmd.dispatcher, now);
-    if (was_unclean && vlmd.config.grace != 0) {
+    if (loop.was_unclean && vlmd.config.grace != 0) {
         dispatcher_be_quiet(vlmd.dispatcher, now + vlmd.config.grace);
         write_log("the last daemon ended with locks, or did not end in order: requests wait for the grace time");
     }
     return true;
+}
+
+/* Ends a daemon that has served nobody. After an end in order the next one has no grace time, as this one had none. */
+static void give_up(void) {
+    if (loop.state >= 0 && !loop.was_unclean)
+        write_state(loop.state, loop.epoch, false);
+    write_log("not started");
+    exit(NO_START);
 }
 
 /* Lets clients in. */
@@ -224,10 +233,8 @@ static void start_listening(void) {
     bool is_listening = listen_to(loop.listener, false);
     for (size_t at = 0; at < loop.tcp_listener_count; at++)
         is_listening &= listen_to(loop.tcp_listeners[at], true);
-    if (!is_listening) {
-        write_log("not started");
-        exit(NO_START);
-    }
+    if (!is_listening)
+        give_up();
     notify("READY=1");
     write_log("ready");
 }
@@ -329,8 +336,8 @@ static bool open_streams(void) {
 }
 
 static bool start(void) {
-    bool was_unclean, is_replica = vlmd.config.etcd[0] != 0;
-    loop.state = take_state(vlmd.config.socket, &loop.epoch, &was_unclean);
+    bool is_replica = vlmd.config.etcd[0] != 0;
+    loop.state = take_state(vlmd.config.socket, &loop.epoch, &loop.was_unclean);
     loop.listener = loop.state < 0 ? -1 : open_listener(&vlmd.config, &loop.is_own_listener);
     if (loop.listener < 0)
         return false;
@@ -339,7 +346,7 @@ static bool start(void) {
     if (vlmd.config.listen[0] != 0 && loop.tcp_listener_count == 0)
         return false;
     uv_loop_init(&vlmd.loop);
-    if (is_replica ? !start_replica() : !start_dispatcher(was_unclean))
+    if (is_replica ? !start_replica() : !start_dispatcher())
         return false;
     start_loop();
     return true;
@@ -359,10 +366,8 @@ int main(int count, char **words) {
         return WRONG_WORDS;
     raise_limit();
     signal(SIGPIPE, SIG_IGN);
-    if (!start()) {
-        write_log("not started");
-        return NO_START;
-    }
+    if (!start())
+        give_up();
     if (vlmd.replica == NULL)
         start_listening();
     uv_run(&vlmd.loop, UV_RUN_DEFAULT);

@@ -559,6 +559,21 @@ def linked(_program):
     yield from difference((ended.returncode, (folder / "file").read_text()), (4, "a file with more than 19 bytes\n"))
 
 
+def kept_state(_program):
+    """A state file without an epoch is left as it is, since tokens of epoch 0 may have been given. A start that fails
+    leaves no grace time to the next one."""
+    folder = Path(tempfile.mkdtemp(dir=ROOM().name))
+    state, words = folder / "socket.state", [PLAIN(), "-c", "/dev/null", "-s", folder / "socket"]
+    for text in ("a file\n", "-5 ended\n", "16777215 ended\n", "99999999999 ended\n", 19 * "\0"):
+        state.write_text(text)
+        ended = subprocess.run(words, capture_output=True, text=True, timeout=20)
+        yield from difference((ended.returncode, state.read_text()), (4, text))
+    state.write_text("0000000007 ended  \n")
+    (folder / "socket").write_text("in the way")
+    ended = subprocess.run(words, capture_output=True, text=True, timeout=20)
+    yield from difference((ended.returncode, state.read_text()), (4, "0000000008 ended  \n"))
+
+
 # Starts a daemon with its listening socket at descriptor 3, and tells it that the socket is its own.
 AS_SYSTEMD = """
 import os, sys
@@ -816,7 +831,8 @@ BEHAVIOURS = {"a daemon without a log": without_log,
               "a daemon that stays awake": awake,
               "a change of managers": changed, "no identifications left": drained, "10,000 idle connections": idle,
               "a storm of clients": stormy, "mutated lines": mutated,
-              "replicas in one program": lists, "a link for the state file": linked}
+              "replicas in one program": lists, "a link for the state file": linked,
+              "a state file without an epoch": kept_state}
 
 
 def installed(_program):
