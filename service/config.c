@@ -164,7 +164,24 @@ bool read_config(const char *file, bool must_be_there, struct config *config) {
     return false;
 }
 
+/* Whether all members are HOST:PORT: a URL would be asked in vain. */
+static bool are_members(const char *members) {
+    char text[WORD], *rest = text;
+    uint32_t port;
+    snprintf(text, sizeof text, "%s", members);
+    for (char *member; (member = strsep(&rest, ",")) != NULL;) {
+        const char *colon = strrchr(member, ':');
+        if (colon == NULL || colon == member || strchr(member, '/') != NULL || !number_of(colon + 1, UINT16_MAX, &port))
+            return false;
+    }
+    return true;
+}
+
 bool fits_etcd(const struct config *config) {
+    if (config->etcd[0] != 0 && !are_members(config->etcd)) {
+        write_log("etcd: the members are HOST:PORT, with commas between them");
+        return false;
+    }
     bool has_certificate = config->etcd_certificate[0] != 0, has_key = config->etcd_key[0] != 0;
     bool fits = has_certificate == has_key && (!has_key || config->etcd_authority[0] != 0);
     if (!fits)

@@ -73,7 +73,8 @@ void write_log(const char *text);
 /* A setting, as a line of the configuration has it. False if it is wrong. */
 bool set_words(struct config *config, char *const *words, size_t count);
 
-/* Whether etcd's files fit each other: a certificate comes with its key, and both with an authority. Logs if not. */
+/* Whether etcd's members are written as they should be, and its files fit each other: a certificate comes with its key,
+ * and both with an authority. Logs if not. */
 bool fits_etcd(const struct config *config);
 
 /* The listening sockets for TCP. Returns how many there are; 0, and logs why, if one can't be made. */

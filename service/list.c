@@ -167,6 +167,12 @@ static bool find_program(char path[LONGEST_PATH]) {
     return slash != NULL && (size_t)snprintf(slash, room, "/../libexec/vlm/list/vlm-list") < room;
 }
 
+static void tell_failure(const char *path, int failed) {
+    char text[LONGEST_PATH + 64];
+    snprintf(text, sizeof text, "%s can't be started: %s", path, uv_strerror(failed));
+    write_log(text);
+}
+
 bool list_open(const struct config *config, void (*is_ready)(void)) {
     char path[LONGEST_PATH], chunk[WORD];
     struct config copy = *config;
@@ -189,6 +195,8 @@ bool list_open(const struct config *config, void (*is_ready)(void)) {
         {.flags = UV_INHERIT_FD, .data.fd = STDERR_FILENO}};
     uv_process_options_t options = {.file = path, .args = words, .stdio = stdio, .stdio_count = 3, .exit_cb = on_end};
     list.is_ready = is_ready;
-    return uv_spawn(&vlmd.loop, &list.process, &options) == 0
-           && uv_read_start((uv_stream_t *)&list.from, on_room, on_heard) == 0;
+    int failed = uv_spawn(&vlmd.loop, &list.process, &options);
+    if (failed != 0)
+        tell_failure(path, failed);
+    return failed == 0 && uv_read_start((uv_stream_t *)&list.from, on_room, on_heard) == 0;
 }

@@ -14,7 +14,7 @@
 #include <sys/resource.h>
 #include <unistd.h>
 
-enum { KEYS = 16, NAMED = 256 };
+enum { KEYS = 16, NAMED = 256, FEWEST_FILES = 32 };
 
 /* How long a replica that ends waits for its entry in the list, in milliseconds. */
 enum { LEAVING = 5000 };
@@ -316,12 +316,16 @@ static bool read_words(int count, char **words) {
     return is_right && (vlmd.config.etcd[0] != 0 || vlmd.config.listen[0] == 0);
 }
 
-static void raise_limit(void) {
+/* Takes all descriptors that there may be. Where they are too few for the loop, libuv would abort the daemon. */
+static bool raise_limit(void) {
     struct rlimit files;
-    if (getrlimit(RLIMIT_NOFILE, &files) == 0) {
-        files.rlim_cur = files.rlim_max;
-        setrlimit(RLIMIT_NOFILE, &files);
-    }
+    if (getrlimit(RLIMIT_NOFILE, &files) != 0)
+        return true;
+    files.rlim_cur = files.rlim_max;
+    setrlimit(RLIMIT_NOFILE, &files);
+    if (files.rlim_max < FEWEST_FILES)
+        write_log("too few descriptors: ulimit -n is less than 32");
+    return files.rlim_max >= FEWEST_FILES;
 }
 
 /* Lets standard streams that are closed lead nowhere. Else the state file would come to be standard error, and have the
@@ -357,6 +361,8 @@ int main(int count, char **words) {
         return NO_START;
     /* (until the loop hears of it: the configuration is being read) */
     signal(SIGHUP, SIG_IGN);
+    /* (a log that has come to its greatest length ends no daemon) */
+    signal(SIGXFSZ, SIG_IGN);
     vlmd.file = usual_file;
     if (!read_words(count, words)) {
         write_log("usage: vlmd [-c FILE] [-s SOCKET] [--etcd MEMBERS [--prefix WORD] [--listen HOST:PORT]]");
@@ -364,9 +370,9 @@ int main(int count, char **words) {
     }
     if (!fits_etcd(&vlmd.config) || !read_tls(&vlmd.config))
         return WRONG_WORDS;
-    raise_limit();
     signal(SIGPIPE, SIG_IGN);
-    if (!start())
+    loop.state = -1;
+    if (!raise_limit() || !start())
         give_up();
     if (vlmd.replica == NULL)
         start_listening();

@@ -528,6 +528,7 @@ def configured(_program):
     for words, status in ((["-x"], 2), (["-c", "/nowhere"], 2), (["here"], 2), (["-s", "/nowhere/to/socket"], 4),
                           (["-s", 120 * "x"], 2), (["--listen", "127.0.0.1:0"], 2), (["--etcd", 300 * "x"], 2),
                           (["-s", ""], 2), (["-c", "/", "-s", f"{ROOM().name}/unread"], 2),
+                          *(([*replica[:3], it], 2) for it in ("127.0.0.1", "a:x", ":1", "a:1,", "http://a:1")),
                           ([*replica, "--listen", "127.0.0.1"], 4), ([*replica, "--listen", "0.0.0.0:0"], 4)):
         ended = subprocess.run([PLAIN(), *words], capture_output=True, text=True, timeout=20)
         yield from difference((words, ended.returncode), (words, status))
@@ -572,6 +573,28 @@ def kept_state(_program):
     (folder / "socket").write_text("in the way")
     ended = subprocess.run(words, capture_output=True, text=True, timeout=20)
     yield from difference((ended.returncode, state.read_text()), (4, "0000000008 ended  \n"))
+
+
+def few_descriptors(_program):
+    """Whether a daemon that has too few descriptors, or no program for its list, says so."""
+    words = [PLAIN(), "-c", "/dev/null", "-s", f"{tempfile.mkdtemp(dir=ROOM().name)}/socket"]
+    for count in range(5, 12):
+        ended = subprocess.run(words, capture_output=True, text=True, timeout=20,
+                               preexec_fn=lambda: resource.setrlimit(resource.RLIMIT_NOFILE, (count, count)))
+        yield from difference((count, ended.returncode, "not started" in ended.stderr), (count, 4, True))
+    ended = subprocess.run([*words, "--etcd", "127.0.0.1:1"], capture_output=True, text=True, timeout=20,
+                           env={**os.environ, "VLM_LIST": "/nowhere"})
+    yield from difference((ended.returncode, "/nowhere can't be started" in ended.stderr), (4, True))
+
+
+def long_log(_program):
+    """A log that may not grow (ulimit -f) ends no daemon, and no lock."""
+    with Daemon(made=PLAIN) as daemon, daemon.client().begin("P") as client:
+        resource.prlimit(daemon.run.pid, resource.RLIMIT_FSIZE, (daemon.log.stat().st_size, -1))
+        daemon.run.send_signal(signal.SIGHUP)
+        time.sleep(0.2)
+        yield from difference(client.ask("enq P EX name=A block=1"), "P: NORMAL lock 1")
+        resource.prlimit(daemon.run.pid, resource.RLIMIT_FSIZE, (-1, -1))
 
 
 # Starts a daemon with its listening socket at descriptor 3, and tells it that the socket is its own.
@@ -832,7 +855,8 @@ BEHAVIOURS = {"a daemon without a log": without_log,
               "a change of managers": changed, "no identifications left": drained, "10,000 idle connections": idle,
               "a storm of clients": stormy, "mutated lines": mutated,
               "replicas in one program": lists, "a link for the state file": linked,
-              "a state file without an epoch": kept_state}
+              "a state file without an epoch": kept_state, "few descriptors": few_descriptors,
+              "a log at its greatest length": long_log}
 
 
 def installed(_program):
