@@ -38,10 +38,13 @@ static int fail(const char *what, const char *name) {
     return -1;
 }
 
-static int from_systemd(void) {
+/* How many sockets systemd has given. */
+static long count_given(void) {
     const char *pid = getenv("LISTEN_PID"), *count = getenv("LISTEN_FDS");
-    if (pid == NULL || count == NULL || strtol(pid, NULL, 10) != (long)getpid() || strcmp(count, "1") != 0)
-        return -1;
+    return pid == NULL || count == NULL || strtol(pid, NULL, 10) != (long)getpid() ? 0 : strtol(count, NULL, 10);
+}
+
+static int take_given(void) {
     fcntl(SYSTEMD_DESCRIPTOR, F_SETFD, FD_CLOEXEC);
     fcntl(SYSTEMD_DESCRIPTOR, F_SETFL, fcntl(SYSTEMD_DESCRIPTOR, F_GETFL) | O_NONBLOCK);
     return SYSTEMD_DESCRIPTOR;
@@ -66,10 +69,15 @@ static bool make_way(const struct sockaddr_un *address) {
 }
 
 int open_listener(const struct config *config, bool *is_own) {
-    int given = from_systemd();
-    *is_own = given < 0;
-    if (given >= 0)
-        return given;
+    long given = count_given();
+    *is_own = given == 0;
+    /* (one of its own would be in the way of these, or elsewhere) */
+    if (given > 1) {
+        write_log("systemd gives several sockets: vlmd.socket may have one ListenStream");
+        return -1;
+    }
+    if (given == 1)
+        return take_given();
     struct sockaddr_un address = {.sun_family = AF_UNIX};
     snprintf(address.sun_path, sizeof address.sun_path, "%s", config->socket);
     if (!make_way(&address))

@@ -627,6 +627,9 @@ def under_systemd(_program):
         yield from difference(daemon.wait(20), 0)
         yield from difference((folder / "state").read_text(), "0000000000 ended  \n")
         yield from difference((folder / "lock").exists(), True)
+        ended = subprocess.run([str(word) for word in words], env={**env, "LISTEN_FDS": "2"}, timeout=20,
+                               pass_fds=[listener.fileno()], capture_output=True, text=True)
+        yield from difference((ended.returncode, "one ListenStream" in ended.stderr), (4, True))
 
 
 def sandboxed(_program):
