@@ -17,13 +17,24 @@
 #include <sys/un.h>
 #include <unistd.h>
 
-enum { BACKLOG = 4096, SYSTEMD_DESCRIPTOR = 3, STATE = 32, TEXT = 640, LONGEST_PATH = 512, EPOCHS = 1 << 24 };
+enum { BACKLOG = 4096, SYSTEMD_DESCRIPTOR = 3, STATE = 32, TEXT = 640, LONGEST_PATH = 512, EPOCHS = 1 << 24, NAME = 64 };
+
+/* Whether standard error is the stream to the journal that systemd has named. Shells of a unit hand the name on to
+ * programs whose log goes elsewhere. */
+static bool is_journal(void) {
+    const char *stream = getenv("JOURNAL_STREAM");
+    struct stat log;
+    char name[NAME];
+    if (stream == NULL || fstat(STDERR_FILENO, &log) != 0)
+        return false;
+    snprintf(name, sizeof name, "%ju:%ju", (uintmax_t)log.st_dev, (uintmax_t)log.st_ino);
+    return strcmp(stream, name) == 0;
+}
 
 void write_log(const char *text) {
     char line[TEXT];
     struct pollfd ready = {.fd = STDERR_FILENO, .events = POLLOUT};
-    const char *priority = getenv("JOURNAL_STREAM") != NULL ? "<6>" : "vlmd: ";
-    int len = snprintf(line, sizeof line, "%s%s\n", priority, text);
+    int len = snprintf(line, sizeof line, "%s%s\n", is_journal() ? "<6>" : "vlmd: ", text);
     if (len >= (int)sizeof line)
         len = sizeof line - 1;
     /* (a log that nobody reads, or whose disk is full, holds up no client) */

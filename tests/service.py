@@ -575,6 +575,18 @@ def kept_state(_program):
     yield from difference((ended.returncode, state.read_text()), (4, "0000000008 ended  \n"))
 
 
+def marked_log(_program):
+    """Lines of the log have a priority where standard error is systemd's stream to the journal, and only there."""
+    with open(Path(ROOM().name) / "marked log", "w+") as log:
+        place = os.fstat(log.fileno())
+        for stream, begin in ((f"{place.st_dev}:{place.st_ino}", "<6>usage"), ("1:2", "vlmd: usage")):
+            log.truncate(0)
+            log.seek(0)
+            subprocess.run([PLAIN(), "-x"], stderr=log, timeout=20, env={**os.environ, "JOURNAL_STREAM": stream})
+            log.seek(0)
+            yield from difference(log.read().startswith(begin), True)
+
+
 def few_descriptors(_program):
     """Whether a daemon that has too few descriptors, or no program for its list, says so."""
     words = [PLAIN(), "-c", "/dev/null", "-s", f"{tempfile.mkdtemp(dir=ROOM().name)}/socket"]
@@ -859,7 +871,7 @@ BEHAVIOURS = {"a daemon without a log": without_log,
               "a storm of clients": stormy, "mutated lines": mutated,
               "replicas in one program": lists, "a link for the state file": linked,
               "a state file without an epoch": kept_state, "few descriptors": few_descriptors,
-              "a log at its greatest length": long_log}
+              "a log at its greatest length": long_log, "a log in the journal": marked_log}
 
 
 def installed(_program):
