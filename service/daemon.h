@@ -88,6 +88,10 @@ int open_listener(const struct config *config, bool *is_own);
  * the last daemon ended with locks that its clients may believe in. -1 if it can't be taken. */
 int take_state(const char *socket, uint32_t *epoch, bool *was_unclean);
 
+/* Makes the state file again if somebody has removed it: else another daemon would begin, and grant what this one has
+ * granted. False if another one has begun. */
+bool keep_state(const char *socket, uint32_t epoch, int *descriptor);
+
 /* Writes the state: the epoch, and whether clients may believe in locks of it. */
 bool write_state(int descriptor, uint32_t epoch, bool is_running);
 

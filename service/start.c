@@ -17,7 +17,9 @@
 #include <sys/un.h>
 #include <unistd.h>
 
-enum { BACKLOG = 4096, SYSTEMD_DESCRIPTOR = 3, STATE = 32, TEXT = 640, LONGEST_PATH = 512, EPOCHS = 1 << 24, NAME = 64 };
+enum { BACKLOG = 4096, SYSTEMD_DESCRIPTOR = 3, STATE = 32, TEXT = 640, LONGEST_PATH = 512, NAME = 64 };
+
+enum { EPOCHS = 1 << 24 };
 
 /* Whether standard error is the stream to the journal that systemd has named. Shells of a unit hand the name on to
  * programs whose log goes elsewhere. */
@@ -179,8 +181,8 @@ static void make_folder(const char *socket) {
         fail("can't be made", folder);
 }
 
-/* Reads what the last daemon has left. An empty file is a new one. False if there is something else than a state, or the
- * epochs are at their end: the next tokens would be smaller than earlier ones. */
+/* Reads what the last daemon has left. An empty file is a new one. False if there is something else than a state, or
+ * the epochs are at their end: the next tokens would be smaller than earlier ones. */
 static bool read_state(int descriptor, uint32_t *epoch, bool *was_unclean) {
     char text[STATE + 1] = "", *end = text;
     ssize_t len = pread(descriptor, text, STATE, 0);
@@ -190,15 +192,37 @@ static bool read_state(int descriptor, uint32_t *epoch, bool *was_unclean) {
     return len == 0 || (text[0] >= '0' && text[0] <= '9' && (*end == ' ' || *end == '\n') && last < EPOCHS - 1);
 }
 
+/* The name of the state file. Returns whether it is in a folder that systemd made for the daemon. */
+static bool name_state(const char *socket, char name[LONGEST_PATH]) {
+    const char *folder = getenv("STATE_DIRECTORY");
+    if (folder != NULL)
+        snprintf(name, LONGEST_PATH, "%s/state", folder);
+    else
+        snprintf(name, LONGEST_PATH, "%s.state", socket);
+    return folder != NULL;
+}
+
+bool keep_state(const char *socket, uint32_t epoch, int *descriptor) {
+    char name[LONGEST_PATH];
+    struct stat ours;
+    if (fstat(*descriptor, &ours) != 0 || ours.st_nlink != 0)
+        return true;
+    name_state(socket, name);
+    int made = open(name, O_RDWR | O_CREAT | O_NOFOLLOW | O_CLOEXEC, 0600);
+    if (made < 0)
+        return true;
+    bool is_ours = flock(made, LOCK_EX | LOCK_NB) == 0;
+    if (is_ours && write_state(made, epoch, true)) {
+        write_log("the state file was gone, and is written again");
+        dup3(made, *descriptor, O_CLOEXEC);
+    }
+    close(made);
+    return is_ours;
+}
+
 int take_state(const char *socket, uint32_t *epoch, bool *was_unclean) {
     char name[LONGEST_PATH];
-    const char *folder = getenv("STATE_DIRECTORY");
-    /* (a folder that systemd made for the daemon) */
-    if (folder != NULL)
-        snprintf(name, sizeof name, "%s/state", folder);
-    else
-        snprintf(name, sizeof name, "%s.state", socket);
-    if (folder == NULL)
+    if (!name_state(socket, name))
         make_folder(socket);
     int descriptor = open(name, O_RDWR | O_CREAT | O_NOFOLLOW | O_CLOEXEC, 0600);
     if (descriptor < 0)

@@ -19,6 +19,9 @@ enum { KEYS = 16, NAMED = 256, FEWEST_FILES = 32 };
 /* How long a replica that ends waits for its entry in the list, in milliseconds. */
 enum { LEAVING = 5000 };
 
+/* How often the daemon looks for its state file. */
+enum { LOOK = 1000 };
+
 static const char usual_file[] = "/etc/vlmd.conf", usual_socket[] = "/run/vlm/lock.sock";
 static const struct config usual_config = {.mode = 0660,
                                            .grace = 2000,
@@ -40,7 +43,7 @@ static struct {
     uv_check_t after;
     uv_idle_t busy;       /* runs while lines are left or expected, so that the loop does not wait */
     uint64_t awake_until; /* nanoseconds */
-    uv_timer_t due, watchdog, leaving;
+    uv_timer_t due, watchdog, leaving, look;
     uint64_t set_for; /* when `due` wakes the loop */
     uv_signal_t signals[3];
 } loop;
@@ -185,12 +188,24 @@ static void on_end(uv_signal_t *handle, int number) {
     end();
 }
 
+/* Looks whether the state file is there. If another daemon has it, its socket is no longer ours either. */
+static void on_look(uv_timer_t *timer) {
+    (void)timer;
+    if (keep_state(vlmd.config.socket, loop.epoch, &loop.state))
+        return;
+    write_log("the state file was gone, and another daemon has begun: this one ends");
+    loop.is_own_listener = false;
+    on_end(NULL, SIGTERM);
+}
+
 static void start_loop(void) {
     uv_check_init(&vlmd.loop, &loop.after);
     uv_check_start(&loop.after, on_turn);
     uv_idle_init(&vlmd.loop, &loop.busy);
     uv_timer_init(&vlmd.loop, &loop.due);
     uv_timer_init(&vlmd.loop, &loop.leaving);
+    uv_timer_init(&vlmd.loop, &loop.look);
+    uv_timer_start(&loop.look, on_look, LOOK, LOOK);
     uv_timer_init(&vlmd.loop, &loop.watchdog);
     uint64_t watchdog = watchdog_time();
     if (watchdog != 0)

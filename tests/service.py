@@ -609,6 +609,28 @@ def long_log(_program):
         resource.prlimit(daemon.run.pid, resource.RLIMIT_FSIZE, (-1, -1))
 
 
+def removed_state(_program):
+    """A state file that is removed comes again, so no other daemon begins beside this one. If one has begun by then,
+    this one ends, and leaves it its socket."""
+    folder = Path(tempfile.mkdtemp(dir=ROOM().name))
+    with Daemon(made=PLAIN, folder=folder) as daemon, daemon.client() as client:
+        state = folder / "socket.state"
+        state.unlink()
+        until = time.monotonic() + 20
+        while not state.exists() and time.monotonic() < until:
+            time.sleep(0.02)
+        words = [PLAIN(), "-c", "/dev/null", "-s", daemon.socket]
+        ended = subprocess.run(words, capture_output=True, text=True, timeout=20)
+        yield from difference((ended.returncode, "belongs to another daemon" in ended.stderr), (4, True))
+        yield from difference(client.ask("alive"), "no session")
+        for it in ("socket", "socket.state"):
+            (folder / it).unlink()
+        other = subprocess.Popen(words, stderr=subprocess.DEVNULL)
+        yield from difference((client.line(), daemon.run.wait(20), (folder / "socket").exists()), ("lost", 0, True))
+        other.terminate()
+        yield from difference(other.wait(20), 0)
+
+
 # Starts a daemon with its listening socket at descriptor 3, and tells it that the socket is its own.
 AS_SYSTEMD = """
 import os, sys
@@ -871,7 +893,8 @@ BEHAVIOURS = {"a daemon without a log": without_log,
               "a storm of clients": stormy, "mutated lines": mutated,
               "replicas in one program": lists, "a link for the state file": linked,
               "a state file without an epoch": kept_state, "few descriptors": few_descriptors,
-              "a log at its greatest length": long_log, "a log in the journal": marked_log}
+              "a log at its greatest length": long_log, "a log in the journal": marked_log,
+              "a state file that is removed": removed_state}
 
 
 def installed(_program):
