@@ -12,9 +12,14 @@ have taken effect although its answer is lost: every call below may be repeated.
 """
 
 import logging
+import os
 import time
 from dataclasses import dataclass
 from typing import Any, Callable, Iterator, List, Optional, Sequence, Set, Tuple, TypeVar
+
+# Between calls the library looks at its connections each five seconds only. One that is to be made again after an
+# outage needs several looks, and leases would run out before. (It reads this when it is imported.)
+os.environ.setdefault("GRPC_CLIENT_CHANNEL_BACKUP_POLL_INTERVAL_MS", "100")
 
 import etcd3
 import grpc

@@ -282,6 +282,20 @@ class Service(OverReplicas):
         self.assert_equal_replicas(p, count)
 
 
+class Away(unittest.TestCase):
+    def test_a_replica_finds_etcd_soon_after_an_outage(self):
+        with Local(1, 1) as local:
+            local.wait()
+            there = Lines(local.places[0], "open seconds=60", "declare P")
+            self.addCleanup(there.close)
+            local.kill("etcd 0")
+            time.sleep(4)
+            local.start_member(0)
+            begun = time.monotonic()
+            self.assertRegex(there.ask("enq P EX name=A block=1"), "^P: NORMAL lock")
+            self.assertLess(time.monotonic() - begun, 8)
+
+
 class Lost(unittest.TestCase):
     def test_a_replica_ends_where_the_list_lacks_batches(self):
         with Local(1, 2) as local:
