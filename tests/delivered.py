@@ -367,7 +367,8 @@ apt-get install etcd-server python3-etcd3 && systemd-run --unit=list etcd --data
     --listen-peer-urls http://127.0.0.1:23791 --initial-advertise-peer-urls http://127.0.0.1:23791 \\
     --initial-cluster m1=http://127.0.0.1:23791
 """
-# The daemon of the unit is a replica, and so is one that root starts.
+# The daemon of the unit is a replica, and so is one that root starts. Once the list lacks a batch, systemd does not
+# start it again.
 REPLICAS = """printf 'etcd 127.0.0.1:23790\\nlisten 127.0.0.1:7001\\n' >/etc/vlmd.conf
 systemctl daemon-reload && systemctl restart vlmd
 vlmd -s /tmp/other.sock --listen 127.0.0.1:7002 2>/dev/null &
@@ -376,6 +377,8 @@ vlm lock --connect tcp:127.0.0.1:7001 backup \\
     sh -c 'vlm lock --connect tcp:127.0.0.1:7002 -n backup echo mine || echo busy'
 vlm lock --connect tcp:127.0.0.1:7002 -w 5 backup echo mine
 kill %1
+python3 -c "import etcd3; c = etcd3.client(port=23790); c.delete(min(it.key for _, it in c.get_prefix('vlm/entries/')))"
+systemctl restart vlmd 2>/dev/null || systemctl show --property ExecMainStatus --property NRestarts vlmd
 rm -r /etc/systemd/system/vlmd.service.d
 : >/etc/vlmd.conf
 systemctl daemon-reload && systemctl restart vlmd
@@ -383,13 +386,14 @@ systemctl daemon-reload && systemctl restart vlmd
 
 
 def is_replicated(machine):
-    """With what docs/CLUSTER.md adds to the unit, the daemon is a replica. Another one has the same locks."""
+    """With what docs/CLUSTER.md adds to the unit, the daemon is a replica. Another one has the same locks. It is not
+    started again on a list that has lost a part."""
     added = re.search(r"^```text\n(\[Unit\]\n.*?)^```", (TOP / "docs" / "CLUSTER.md").read_text(), re.M | re.S)[1]
     machine.need(ETCD)
     folder = machine.folder / "etc/systemd/system/vlmd.service.d"
     folder.mkdir()
     (folder / "override.conf").write_text(added)
-    yield from difference(machine.run(REPLICAS).stdout, "busy\nmine\n")
+    yield from difference(machine.run(REPLICAS).stdout, "busy\nmine\nExecMainStatus=3\nNRestarts=0\n")
 
 
 def is_kept(machine):

@@ -616,16 +616,17 @@ def removed_state(_program):
     with Daemon(made=PLAIN, folder=folder) as daemon, daemon.client() as client:
         state = folder / "socket.state"
         state.unlink()
-        until = time.monotonic() + 20
-        while not state.exists() and time.monotonic() < until:
-            time.sleep(0.02)
+        yield from difference(service_replicas.until(state.exists), True)
         words = [PLAIN(), "-c", "/dev/null", "-s", daemon.socket]
         ended = subprocess.run(words, capture_output=True, text=True, timeout=20)
         yield from difference((ended.returncode, "belongs to another daemon" in ended.stderr), (4, True))
         yield from difference(client.ask("alive"), "no session")
+        daemon.run.send_signal(signal.SIGSTOP)
         for it in ("socket", "socket.state"):
             (folder / it).unlink()
         other = subprocess.Popen(words, stderr=subprocess.DEVNULL)
+        yield from difference(service_replicas.until(lambda: (folder / "socket").exists()), True)
+        daemon.run.send_signal(signal.SIGCONT)
         yield from difference((client.line(), daemon.run.wait(20), (folder / "socket").exists()), ("lost", 0, True))
         other.terminate()
         yield from difference(other.wait(20), 0)
