@@ -1,6 +1,7 @@
 /* The configuration: one line for each setting, a word and its values. */
 #define _GNU_SOURCE
 #include "daemon.h"
+#include "rows.h"
 
 #include <errno.h>
 #include <grp.h>
@@ -9,7 +10,7 @@
 #include <string.h>
 #include <sys/socket.h>
 
-enum { LINE = 4096, WORDS = 3, MOST_GIDS = 4096, FEWEST_IDS = 100, MOST_CHUNK = 1 << 20 };
+enum { GROUP_WORDS = 3, MOST_GIDS = 4096, FEWEST_IDS = 100, MOST_CHUNK = 1 << 20 };
 
 static bool number_of(const char *word, unsigned long most, uint32_t *number) {
     char *end;
@@ -84,7 +85,7 @@ static bool add_group(struct config *config, const char *group, const char *uic)
 }
 
 bool set_words(struct config *config, char *const *words, size_t count) {
-    if (count == WORDS && strcmp(words[0], "group") == 0)
+    if (count == GROUP_WORDS && strcmp(words[0], "group") == 0)
         return add_group(config, words[1], words[2]);
     if (count != 2)
         return false;
@@ -111,30 +112,9 @@ bool set_words(struct config *config, char *const *words, size_t count) {
     return false;
 }
 
-static bool read_line(struct config *config, char *line) {
-    char *words[WORDS + 1], *rest = NULL;
-    size_t count = 0;
-    line[strcspn(line, "#")] = 0;
-    for (char *word = strtok_r(line, " \t\r", &rest); word != NULL; word = strtok_r(NULL, " \t\r", &rest))
-        if (count <= WORDS)
-            words[count++] = word;
-    return count == 0 || set_words(config, words, count);
-}
-
-/* The next line. False at the end of the file. *is_whole is false if it is too long, or has a zero byte, as a crash of
- * the machine may leave it: its rest, read as a line of its own, might give rights. */
-static bool next_line(FILE *from, char line[LINE], bool *is_whole) {
-    int byte;
-    size_t len = 0;
-    while ((byte = getc(from)) != EOF && byte != '\n' && byte != 0 && len < LINE - 1)
-        line[len++] = (char)byte;
-    line[len] = 0;
-    *is_whole = byte == EOF || byte == '\n';
-    return byte != EOF || len != 0;
-}
-
 bool read_config(const char *file, bool must_be_there, struct config *config) {
-    char line[LINE], text[LINE + 64];
+    char text[ROW + 64];
+    struct row row = {0};
     struct config read = *config;
     FILE *from = fopen(file, "re");
     if (from == NULL && !must_be_there && errno == ENOENT)
@@ -144,12 +124,9 @@ bool read_config(const char *file, bool must_be_there, struct config *config) {
         write_log(text);
         return false;
     }
-    unsigned number = 0;
-    bool is_right = true, is_whole;
-    while (is_right && next_line(from, line, &is_whole)) {
-        number++;
-        is_right = is_whole && read_line(&read, line);
-    }
+    bool is_right = true;
+    while (is_right && next_row(from, &row))
+        is_right = row.is_whole && set_words(&read, row.words, row.count);
     bool is_read = ferror(from) == 0;
     fclose(from);
     if (is_right && is_read) {
@@ -157,7 +134,7 @@ bool read_config(const char *file, bool must_be_there, struct config *config) {
         return true;
     }
     if (is_read)
-        snprintf(text, sizeof text, "%s line %u: no such setting, or a wrong value", file, number);
+        snprintf(text, sizeof text, "%s line %u: no such setting, or a wrong value", file, row.number);
     else
         snprintf(text, sizeof text, "%s can't be read", file);
     write_log(text);

@@ -6,6 +6,7 @@
  * names.c        the file of rights, for clients with TLS
  * list.c         the list of a replica, which a program of its own keeps in etcd
  * config.c       the configuration
+ * rows.c         files of settings: the configuration, and the file of rights
  * start.c        the sockets, the state file, the log, and what systemd is told
  */
 #ifndef DAEMON_H

@@ -1,13 +1,14 @@
 /* The file of rights: a line for each client that may come, with its name, its user and UIC group, and what else it
  * may. */
 #include "names.h"
+#include "rows.h"
 
 #include <errno.h>
 #include <stdio.h>
 #include <stdlib.h>
 #include <string.h>
 
-enum { LINE = 4096, WORDS = 5, NEEDED = 3, FIRST_ROOM = 16, TEXT = LINE + 128 };
+enum { WORDS = 5, NEEDED = 3, FIRST_ROOM = 16, TEXT = ROW + 128 };
 
 /* KEY=N, where N is `most` at most. */
 static bool keyed_number(const char *word, const char *key, unsigned long most, uint32_t *number) {
@@ -22,16 +23,16 @@ static bool keyed_number(const char *word, const char *key, unsigned long most, 
 }
 
 /* NAME uid=N group=N [syslck] [admin] */
-static bool read_row(char *const *words, size_t count, struct named *row) {
-    if (count < NEEDED || count > WORDS || strlen(words[0]) >= VLM_TLS_NAME
-        || !keyed_number(words[1], "uid=", UINT32_MAX, &row->rights.uid)
-        || !keyed_number(words[2], "group=", VLM_MAX_GROUP, &row->rights.group))
+static bool read_named(const struct row *row, struct named *named) {
+    if (!row->is_whole || row->count < NEEDED || row->count > WORDS || strlen(row->words[0]) >= VLM_TLS_NAME
+        || !keyed_number(row->words[1], "uid=", UINT32_MAX, &named->rights.uid)
+        || !keyed_number(row->words[2], "group=", VLM_MAX_GROUP, &named->rights.group))
         return false;
-    snprintf(row->name, sizeof row->name, "%s", words[0]);
-    for (size_t at = NEEDED; at < count; at++) {
-        bool *right = strcmp(words[at], "syslck") == 0  ? &row->rights.has_syslck
-                      : strcmp(words[at], "admin") == 0 ? &row->rights.is_admin
-                                                        : NULL;
+    snprintf(named->name, sizeof named->name, "%s", row->words[0]);
+    for (size_t at = NEEDED; at < row->count; at++) {
+        bool *right = strcmp(row->words[at], "syslck") == 0  ? &named->rights.has_syslck
+                      : strcmp(row->words[at], "admin") == 0 ? &named->rights.is_admin
+                                                             : NULL;
         if (right == NULL || *right)
             return false;
         *right = true;
@@ -57,9 +58,9 @@ const struct rights *rights_of(const struct names *names, const char *name) {
     return place < names->count && strcmp(names->rows[place].name, name) == 0 ? &names->rows[place].rights : NULL;
 }
 
-/* Adds a row. Returns what is wrong, or null. */
-static const char *add(struct names *names, const struct named *row) {
-    if (rights_of(names, row->name) != NULL)
+/* Adds a name. Returns what is wrong, or null. */
+static const char *add(struct names *names, const struct named *named) {
+    if (rights_of(names, named->name) != NULL)
         return "the name is there twice";
     if (names->count == names->room) {
         size_t room = names->room != 0 ? 2 * names->room : FIRST_ROOM;
@@ -69,27 +70,11 @@ static const char *add(struct names *names, const struct named *row) {
         names->rows = rows;
         names->room = room;
     }
-    size_t place = place_of(names, row->name);
-    memmove(names->rows + place + 1, names->rows + place, (names->count - place) * sizeof *row);
-    names->rows[place] = *row;
+    size_t place = place_of(names, named->name);
+    memmove(names->rows + place + 1, names->rows + place, (names->count - place) * sizeof *named);
+    names->rows[place] = *named;
     names->count++;
     return NULL;
-}
-
-/* Reads a line. Returns what is wrong, or null. */
-static const char *read_line(struct names *names, char *line) {
-    static const char form[] = "it is not NAME uid=N group=N, and then syslck or admin or both";
-    char *words[WORDS + 1], *rest = NULL;
-    struct named row = {0};
-    size_t count = 0;
-    bool is_whole = strlen(line) < LINE - 1 || line[LINE - 2] == '\n';
-    line[strcspn(line, "#\n")] = 0;
-    for (char *word = strtok_r(line, " \t\r", &rest); word != NULL; word = strtok_r(NULL, " \t\r", &rest))
-        if (count <= WORDS)
-            words[count++] = word;
-    if (count == 0 && is_whole)
-        return NULL;
-    return is_whole && read_row(words, count, &row) ? add(names, &row) : form;
 }
 
 void free_names(struct names *names) {
@@ -98,7 +83,9 @@ void free_names(struct names *names) {
 }
 
 bool read_names(const char *file, struct names *names) {
-    char line[LINE], text[TEXT];
+    static const char form[] = "it is not NAME uid=N group=N, and then syslck or admin or both";
+    char text[TEXT];
+    struct row row = {0};
     struct names read = {NULL, 0, 0};
     FILE *from = fopen(file, "re");
     if (from == NULL) {
@@ -107,10 +94,9 @@ bool read_names(const char *file, struct names *names) {
         return false;
     }
     const char *wrong = NULL;
-    unsigned number = 0;
-    while (wrong == NULL && fgets(line, sizeof line, from) != NULL) {
-        number++;
-        wrong = read_line(&read, line);
+    while (wrong == NULL && next_row(from, &row)) {
+        struct named named = {0};
+        wrong = read_named(&row, &named) ? add(&read, &named) : form;
     }
     if (wrong == NULL && ferror(from) != 0)
         wrong = strerror(errno);
@@ -120,7 +106,7 @@ bool read_names(const char *file, struct names *names) {
         *names = read;
         return true;
     }
-    snprintf(text, sizeof text, "%s line %u: %s", file, number, wrong);
+    snprintf(text, sizeof text, "%s line %u: %s", file, row.number, wrong);
     write_log(text);
     free_names(&read);
     return false;

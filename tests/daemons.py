@@ -16,7 +16,7 @@ from harness import ROOM, TOP, Once
 
 SOURCES = sorted((TOP / "service").glob("*.c"))
 # The files of the dispatcher and of a replica, without the daemon around them.
-DAEMON = ("vlmd.c", "connections.c", "secured.c", "names.c", "config.c", "list.c", "start.c")
+DAEMON = ("vlmd.c", "connections.c", "secured.c", "names.c", "config.c", "rows.c", "list.c", "start.c")
 DISPATCHER = [it for it in SOURCES if it.name not in DAEMON]
 # How long an answer may take.
 SECONDS = 20

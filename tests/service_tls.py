@@ -442,7 +442,7 @@ WRONG = {"tls-certificate {keys}/m1.pem": (2, "tls: tls-key is not set"),
 WRONG_RIGHTS = ("alice", "alice uid=1", "alice group=1 uid=1", "alice uid=1 group=65536",
                 "alice uid=4294967296 group=1", "alice uid=1 group=1 root", "alice uid=1 group=1 admin admin",
                 "alice uid= group=1", "alice uid=1 group=1 admin syslck more", 65 * "a" + " uid=1 group=1",
-                "alice uid=1 group=1 " + 600 * "x")
+                "alice uid=1 group=1 " + 600 * "x", "alice uid=1 group=1\0", 4096 * " " + "alice uid=1 group=1")
 
 
 def told_by(config, listen, made=PLAIN):
