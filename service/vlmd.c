@@ -190,9 +190,10 @@ static void on_end(uv_signal_t *handle, int number) {
 
 /* Looks whether the state file is there. If another daemon has it, its socket is no longer ours either. */
 static void on_look(uv_timer_t *timer) {
-    (void)timer;
     if (keep_state(vlmd.config.socket, loop.epoch, &loop.state))
         return;
+    /* (a second end would not wait until the other replicas know of the first) */
+    uv_timer_stop(timer);
     write_log("the state file was gone, and another daemon has begun: this one ends");
     loop.is_own_listener = false;
     on_end(NULL, SIGTERM);
