@@ -104,7 +104,7 @@ uint32_t vlm_client_deq(vlm_client *client, const vlm_threads_dequeue *dequeue);
  * answer without the blank one, each with its line feed, and a zero at the end. The caller frees it; it is null unless
  * the answer is NORMAL. A text such as "no such lock" is an answer too. Costs what the line costs the service, and
  * memory for the text.
- * INSFMEM: memory was refused. BADPARAM: the word has a line feed or more than 256 bytes. */
+ * INSFMEM: memory was refused. BADPARAM: the word begins with no letter, or has a line feed or more than 256 bytes. */
 uint32_t vlm_client_read(vlm_client *client, const char *word, uint32_t lkid, char **text);
 
 /* Reads the fencing token of a lock: of its last request that ended well. docs/SERVICE.md says what it is for. A later

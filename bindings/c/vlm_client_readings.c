@@ -75,9 +75,16 @@ static uint32_t read_text(vlm_client *client, const char *word, uint32_t lkid, c
     return status == VLM_NORMAL && *text == NULL ? VLM_INSFMEM : status;
 }
 
+/* Whether a line begins with a word. A blank line and a comment have no answer, that of a numbered line has no blank
+ * line at its end. */
+static bool is_line(const char *word) {
+    char first = word[strspn(word, " \t\r")];
+    return first >= 'a' && first <= 'z' && strlen(word) <= LINE_ROOM / 2 && strchr(word, '\n') == NULL;
+}
+
 uint32_t vlm_client_read(vlm_client *client, const char *word, uint32_t lkid, char **text) {
     *text = NULL;
-    if (!vlmc_is_usable(client) || strlen(word) > LINE_ROOM / 2 || strchr(word, '\n') != NULL)
+    if (!vlmc_is_usable(client) || !is_line(word))
         return VLM_BADPARAM;
     int before = cancels_off();
     uint32_t status = read_text(client, word, lkid, text);

@@ -855,6 +855,10 @@ static void test_readings(void) {
     memset(long_word, 'x', sizeof long_word - 1);
     CHECK(vlm_client_read(client, "who\nwho", 0, &text) == VLM_BADPARAM && text == NULL);
     CHECK(vlm_client_read(client, long_word, 0, &text) == VLM_BADPARAM && text == NULL);
+    /* (no answer that ends with a blank line would come) */
+    static const char *const none[] = {"", " \t\r", "# who", " #", "7 who"};
+    for (size_t at = 0; at < sizeof none / sizeof *none; at++)
+        CHECK(vlm_client_read(client, none[at], 0, &text) == VLM_BADPARAM && text == NULL);
     pthread_t readers[THREADS];
     for (int at = 0; at < THREADS; at++)
         CHECK(pthread_create(&readers[at], NULL, read_much, client) == 0);
