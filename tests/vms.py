@@ -101,7 +101,7 @@ def services(compiler, sanitizer, _program):
     yield from library.ran(made, "memory", env=environment())
     with Daemon(f"search {WAIT}", made=PLAIN) as daemon:
         yield from library.ran(made, env=environment(daemon, ENQLM=QUOTA))
-        for word in ("forked", "memory"):
+        for word in ("forked", "declared", "memory"):
             yield from library.ran(made, word, env=environment(daemon))
         lost = {**environment(daemon), **IN_TESTS}
         yield from library.ran(made, "lost", daemon.run.pid, env=lost)

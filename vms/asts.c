@@ -196,6 +196,7 @@ int sys$dclast(VMS$AST astadr, VMS$PARAMETER astprm, unsigned int acmode) {
     (void)acmode;
     if (astadr == NULL)
         return SS$_ACCVIO;
+    vms_claim(); /* (a child has no thread of the layer that could call the routines of its locks) */
     struct ast *ast = vms_start() ? vms_new_ast(astadr, astprm) : NULL;
     if (ast == NULL)
         return SS$_INSFMEM;

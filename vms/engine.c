@@ -13,7 +13,7 @@ enum { USUAL_QUOTA = VLM_MAX_QUOTA, DECIMAL = 10, SETTING = 64, FIRST_ROWS = 16 
 static pthread_mutex_t opening = PTHREAD_MUTEX_INITIALIZER;
 /* Guarded by `opening`. */
 static const struct engine *opened;
-static pid_t owner;
+static pid_t owner; /* 0 until a process has claimed the layer */
 
 const char *vms_setting(const char *name) {
     static const char *const prefixes[] = {"VLM$", "VLM_"}; /* (a shell has no names with a dollar) */
@@ -57,18 +57,28 @@ static uint32_t open_named(void) {
     uint32_t status = engine->open(address, quota());
     if (status == VLM_LOST)
         return SS$_UNREACHABLE;
-    if (status == VLM_NORMAL) {
+    if (status == VLM_NORMAL)
         opened = engine;
-        owner = getpid();
-    }
     return vms_condition(status);
+}
+
+/* Wants `opening` held. */
+static bool claim(void) {
+    if (owner == 0)
+        owner = getpid();
+    return owner == getpid();
+}
+
+bool vms_claim(void) {
+    pthread_mutex_lock(&opening);
+    bool is_owner = claim();
+    pthread_mutex_unlock(&opening);
+    return is_owner;
 }
 
 uint32_t vms_open(const struct engine **engine) {
     pthread_mutex_lock(&opening);
-    uint32_t status = opened == NULL ? open_named() : SS$_NORMAL;
-    if (opened != NULL && owner != getpid())
-        status = SS$_UNSUPPORTED;
+    uint32_t status = !claim() ? SS$_UNSUPPORTED : opened == NULL ? open_named() : SS$_NORMAL;
     *engine = opened;
     pthread_mutex_unlock(&opening);
     return status;

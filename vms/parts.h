@@ -74,9 +74,11 @@ struct engine {
 extern const struct engine vms_in_process, vms_by_vlmd;
 
 /* engine.c. vms_open opens the lock manager of this process if it is not open: SS$_NORMAL and the engine, or what the
- * service answers. vms_setting reads a setting such as VLM$SERVICE, or null. vms_add_row answers whether there was
- * memory. */
+ * service answers. vms_claim makes this process the one that uses the layer, if none does: whether it is. A child that
+ * it forks is not, since threads are not forked. vms_setting reads a setting such as VLM$SERVICE, or null. vms_add_row
+ * answers whether there was memory. */
 uint32_t vms_open(const struct engine **engine);
+bool vms_claim(void);
 const char *vms_setting(const char *name);
 bool vms_add_row(struct rows *rows, const struct row *row);
 

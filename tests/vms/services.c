@@ -5,6 +5,7 @@
  *     services           all tests
  *     services lost PID  kills the lock service PID, and tests that the locks are lost
  *     services forked    two processes, the child of a fork before the first service and its parent
+ *     services declared  the child of a fork after an AST, and before the first service for locks
  *     services waits     ASTs with VLM$ASTS=wait
  *     services memory    each allocation is refused in turn; it is linked with a calloc and a realloc of its own
  *     services ANSWER    tests that the first service for locks answers so: unreachable, unsupported */
@@ -505,6 +506,12 @@ static void test_forked(void) {
     CHECK(waitpid(child, &status, 0) == child && status == 0);
 }
 
+/* A child has no thread of the layer, which its parent has started for the AST. */
+static void test_declared(void) {
+    CHECK(sys$dclast((VMS$AST)complete, 1, 0) == SS$_NORMAL);
+    test_fork();
+}
+
 /* No thread of the layer delivers. */
 static void test_waits(void) {
     LKSB first, second;
@@ -637,7 +644,11 @@ int main(int count, char **words) {
     static const struct {
         const char *word;
         void (*run)(void);
-    } tests[] = {{"forked", test_forked}, {"waits", test_waits}, {"memory", test_memory}, {"all", run_all}};
+    } tests[] = {{"forked", test_forked},
+                 {"declared", test_declared},
+                 {"waits", test_waits},
+                 {"memory", test_memory},
+                 {"all", run_all}};
     LKSB lksb;
     const char *word = count == 1 ? "all" : words[1];
     for (size_t at = 0; at < sizeof tests / sizeof *tests; at++)
@@ -645,10 +656,12 @@ int main(int count, char **words) {
             tests[at].run();
             return EXIT_SUCCESS;
         }
-    if (strcmp(word, "lost") == 0)
+    if (strcmp(word, "lost") == 0) {
         test_lost((pid_t)atoi(words[2]));
-    else
+    } else {
         CHECK(enqw(LCK$K_EXMODE, &lksb, 0, &name_a)
               == (strcmp(word, "unreachable") == 0 ? SS$_UNREACHABLE : SS$_UNSUPPORTED));
+        test_fork();
+    }
     return EXIT_SUCCESS;
 }
