@@ -175,6 +175,16 @@ static void warned(void *context, const vlm_threads_event *event) {
     vms_unlock();
 }
 
+/* All locks are lost. A program that sleeps under one would not learn it: no service of its own tells it. */
+void vms_lost(void *unused) {
+    (void)unused;
+    await_calls();
+    vms_lock();
+    for (struct lock *lock = vms_first_lock(); lock != NULL; lock = lock->next)
+        vms_warn(lock);
+    vms_unlock();
+}
+
 /* The service. */
 
 static void free_request(struct request *request) {

@@ -168,6 +168,9 @@ void vms_warn(struct lock *lock);
 void vms_begin_dequeue(bool is_alone);
 void vms_end_dequeue(void);
 
+/* enq.c: queues the blocking ASTs of all locks, which are lost. A routine of the lock manager below. */
+void vms_lost(void *unused);
+
 /* items.c: writes an item of a lock into a buffer. *written is how many bytes, *whole how many there are, and *each how
  * long an entry of a list is, or 0. A condition value. */
 struct item {

@@ -482,6 +482,9 @@ static void test_lost(pid_t service) {
         usleep(THOUSAND);
     kill(service, SIGKILL);
     CHECK(sys$synch(5, &waits) == SS$_NORMAL && waits.lksb$w_status == SS$_NODELEAVE);
+    /* (and the holder of a lock by its blocking AST) */
+    while (blockings == 1)
+        usleep(THOUSAND);
     CHECK(enqw(LCK$K_EXMODE, &waits, 0, &name_b) == SS$_NODELEAVE && deq(&held) == SS$_NODELEAVE);
     lkid = held.lksb$l_lkid;
     CHECK(sys$getlkiw(2, &lkid, (void *)items, NULL, 0, 0, 0) == SS$_NODELEAVE);

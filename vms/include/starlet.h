@@ -42,7 +42,8 @@ typedef unsigned long long VMS$PARAMETER;
  * resnam: a descriptor of a name of 1 to 31 bytes.
  * parid: the parent lock, or 0.
  * astadr: is called as an AST with astprm when the request has ended, or is null.
- * blkastadr: is called as an AST with astprm when the granted lock blocks another request, or is null.
+ * blkastadr: is called as an AST with astprm when the granted lock blocks another request, and when it is lost: then
+ *   services answer SS$_NODELEAVE. Or it is null.
  * acmode: is not looked at. rsdm_id: 0. Further arguments are not looked at.
  *
  * SS$_NORMAL: accepted. SS$_SYNCH: granted at once, with LCK$M_SYNCSTS; the event flag is not set, and no AST comes.
