@@ -330,8 +330,12 @@ def told(_program):
         yield from difference((holder.wait(20), waiter.wait(20)), (75, 0))
         yield from difference(run(daemon, "metrics", "--connect", daemon.socket, socket="/nowhere")[0], 0)
         for words in (["kill"], ["kill", "1"], ["kill", "--connect"], ["metrics", "--all"], ["metrics", "all"],
-                      ["who", "A", "B"], ["who", "-x"], ["who", "a b"]):
+                      ["who", "A", "B"], ["who", "-x"], ["who", ""], ["who", 32 * "A"], ["who", "x:4g"]):
             yield from difference((words, run(daemon, *words)[0]), (words, 64))
+        for name, printed in (("a b", "x:612062"), ("\u00e9", "x:c3a9"), ("a\nb", "x:610a62"), ("a#", "a#")):
+            for asked in (name, printed):
+                words = "lock", name, VLM(), "who", asked
+                yield from difference((words, run(daemon, *words)[1].split("\n")[1].split()[:1]), (words, [printed]))
     yield from unprinted()
 
 

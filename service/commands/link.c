@@ -229,3 +229,18 @@ bool link_open(struct link *link, const char *address) {
     fprintf(stderr, "vlm: no replica answers at %s%s%s\n", address, asking.reason[0] != 0 ? ": " : "", asking.reason);
     return false;
 }
+
+bool write_name(const char *name, char *text) {
+    size_t len = strlen(name);
+    bool is_plain = strncmp(name, "x:", 2) != 0;
+    for (size_t at = 0; at < len; at++)
+        is_plain &= name[at] > ' ' && name[at] < 127;
+    if (len == 0 || len > MOST_NAME)
+        return false;
+    if (is_plain)
+        memcpy(text, name, len + 1);
+    else
+        for (size_t at = 0, to = (size_t)sprintf(text, "x:"); at < len; at++, to += 2)
+            sprintf(text + to, "%02x", (unsigned char)name[at]);
+    return true;
+}

@@ -11,7 +11,7 @@
 /* Exit statuses, as sysexits.h has them. LOST: the lock went while the command ran. */
 enum { WRONG_WORDS = 64, NO_SERVICE = 69, LOST = 75 };
 
-enum { LINE_ROOM = 512 };
+enum { LINE_ROOM = 512, MOST_NAME = 31, NAME_TEXT = 2 + 2 * MOST_NAME + 1 };
 
 #define FOREVER INT64_MAX
 
@@ -46,6 +46,9 @@ int end_output(int got);
 
 /* The time of a clock that never goes back, in milliseconds. */
 int64_t milliseconds(void);
+
+/* Writes the name of a resource as lines have it into NAME_TEXT bytes. Returns false if it is empty or too long. */
+bool write_name(const char *name, char *text);
 
 /* The commands. Each returns its exit status. */
 int run_lock(int count, char **words);

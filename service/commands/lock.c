@@ -19,24 +19,6 @@ enum { NOT_FOUND = 127, NOT_RUN = 126 };
 static const char usage[] = "vlm lock [--connect ADDRESS] [-m MODE] [-n] [-w SECONDS] [-E STATUS] [--value HEX] "
                             "[--on-blocking SIGNAL] NAME COMMAND..";
 
-/* Writes the name of a resource as a line has it. */
-static bool write_name(const char *name, struct wanted *wanted) {
-    size_t len = strlen(name);
-    char *text = wanted->text;
-    wanted->name = name;
-    bool is_plain = strncmp(name, "x:", 2) != 0;
-    for (size_t at = 0; at < len; at++)
-        is_plain &= name[at] > ' ' && name[at] < 127;
-    if (len == 0 || len > MOST_NAME)
-        return false;
-    if (is_plain)
-        memcpy(text, name, len + 1);
-    else
-        for (size_t at = 0, to = (size_t)sprintf(text, "x:"); at < len; at++, to += 2)
-            sprintf(text + to, "%02x", (unsigned char)name[at]);
-    return true;
-}
-
 static bool read_value(const char *word, const char **value) {
     *value = word;
     return strlen(word) == VALUE_DIGITS && strspn(word, "0123456789abcdefABCDEF") == VALUE_DIGITS;
@@ -113,8 +95,11 @@ static bool read_words(int count, char **words, struct wanted *wanted) {
     while ((option = getopt_long(count, words, "+m:nw:E:", longer, NULL)) != -1)
         if (!read_option(option, wanted))
             return false;
+    if (!can_write(wanted) || count - optind < 2)
+        return false;
+    wanted->name = words[optind];
     wanted->command = words + optind + 1;
-    return can_write(wanted) && count - optind >= 2 && write_name(words[optind], wanted);
+    return write_name(wanted->name, wanted->text);
 }
 
 /* Starts the command, with the signals as the wrapper was given them. A command that does not have the connection ends

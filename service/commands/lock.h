@@ -5,7 +5,7 @@
 #include "link.h"
 #include "vlm_client.h"
 
-enum { MOST_NAME = 31, NAME_TEXT = 2 + 2 * MOST_NAME + 1, VALUE_DIGITS = 32 };
+enum { VALUE_DIGITS = 32 };
 
 /* What comes of asking for a lock. */
 enum { GRANTED, CONFLICT, GONE, REFUSED };

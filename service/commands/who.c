@@ -92,6 +92,17 @@ static int print_rows(struct link *link, const struct shown *shown) {
     return end_output(got);
 }
 
+/* Writes a name that `vlm lock` was given, or one that is printed with x: as it is printed. */
+static bool write_asked(const char *name, char *text) {
+    size_t len = strlen(name);
+    if (strncmp(name, "x:", 2) != 0)
+        return write_name(name, text);
+    if (len >= NAME_TEXT || strspn(name + 2, "0123456789abcdef") != len - 2)
+        return false;
+    memcpy(text, name, len + 1);
+    return true;
+}
+
 int run_who(int count, char **words) {
     static const struct option longer[] = {{"json", no_argument, NULL, 'j'},
                                            {"waiting", no_argument, NULL, 'w'},
@@ -100,7 +111,7 @@ int run_who(int count, char **words) {
     const char *address = usual_address();
     struct shown shown = {false, false};
     struct link link;
-    char text[LINE_ROOM];
+    char text[LINE_ROOM], name[NAME_TEXT] = "";
     int option;
     while ((option = getopt_long(count, words, "w", longer, NULL)) != -1) {
         if (option == '?')
@@ -110,12 +121,9 @@ int run_who(int count, char **words) {
         shown.is_json |= option == 'j';
         shown.is_waiting_only |= option == 'w';
     }
-    bool has_name = optind < count;
-    if (count - optind > 1 || (has_name && (words[optind][0] == 0 || strpbrk(words[optind], " \t\r\n") != NULL)))
+    if (count - optind > 1 || (optind < count && !write_asked(words[optind], name)))
         return wrong_words(usage);
-    int len = snprintf(text, sizeof text, "who %s\n", has_name ? words[optind] : "");
-    if (len >= (int)sizeof text)
-        return wrong_words(usage);
+    snprintf(text, sizeof text, "who %s\n", name);
     if (!link_open(&link, address) || !link_send(&link, text))
         return NO_SERVICE;
     return print_rows(&link, &shown);
