@@ -109,6 +109,31 @@ def services(compiler, sanitizer, _program):
     yield from library.ran(made, "unsupported", env=environment(SERVICE="etcd"))
 
 
+# A locale with a decimal comma.
+COMMA = """\
+comment_char %
+escape_char /
+LC_NUMERIC
+decimal_point ","
+thousands_sep "."
+grouping 3
+END LC_NUMERIC
+"""
+
+
+def in_locale(_program):
+    """What is wrong with a deadlock wait of a fraction of a second, in a locale with a decimal comma."""
+    made = made_program(HERE / "services.c", *first_links(), "-Wl,--wrap=calloc,--wrap=realloc")
+    folder = Path(tempfile.mkdtemp(dir=ROOM().name))
+    (folder / "comma").write_text(COMMA)
+    # (it warns of what the locale leaves out, and ends with 1)
+    subprocess.run(["localedef", "-c", "-i", folder / "comma", "-f", "UTF-8", folder / "xx_XX.UTF-8"],
+                   capture_output=True)
+    for wait in ("0.2", "0.0001"):
+        given = {**environment(DEADLOCK_WAIT=wait), "LOCPATH": str(folder), "LC_ALL": "xx_XX.UTF-8"}
+        yield from library.ran(made, "locale", env=given)
+
+
 def replicas(_program):
     """What is wrong with the services at replicas of the lock service, of which one is dead, while the connections of
     the other one are cut."""
@@ -369,6 +394,7 @@ def once():
     found += [Test(f"random calls of threads with the sanitizer {sanitizer}", partial(chaos, sanitizer))
               for sanitizer in sorted({it for _, it in links})]
     found += [Test("the services at replicas", replicas)] * bool(links)
+    found += [Test("a decimal comma", in_locale)] * (bool(links) and bool(shutil.which("localedef")))
     found += [Test("the services by TLS", secured)] * (bool(links) and not service_tls.missing())
     found += [Test("examples alone", alone), Test("the names that the libraries for OpenVMS show", names_shown),
               Test("docs/VMS.md against the headers", page)]

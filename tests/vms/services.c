@@ -6,6 +6,7 @@
  *     services lost PID  kills the lock service PID, and tests that the locks are lost
  *     services forked    two processes, the child of a fork before the first service and its parent
  *     services declared  the child of a fork after an AST, and before the first service for locks
+ *     services locale    a deadlock in a locale with a decimal comma
  *     services waits     ASTs with VLM$ASTS=wait
  *     services memory    each allocation is refused in turn; it is linked with a calloc and a realloc of its own
  *     services ANSWER    tests that the first service for locks answers so: unreachable, unsupported */
@@ -21,6 +22,7 @@
 #include <starlet.h>
 #include <stsdef.h>
 
+#include <locale.h>
 #include <pthread.h>
 #include <signal.h>
 #include <stdatomic.h>
@@ -515,6 +517,15 @@ static void test_declared(void) {
     test_fork();
 }
 
+/* The deadlock wait has a point. */
+static void test_locale(void) {
+    LKSB held, waits;
+    CHECK(setlocale(LC_NUMERIC, "") != NULL && strcmp(localeconv()->decimal_point, ",") == 0);
+    CHECK(enqw(LCK$K_EXMODE, &held, 0, &name_a) == SS$_NORMAL);
+    CHECK(enqw(LCK$K_EXMODE, &waits, 0, &name_a) == SS$_NORMAL && waits.lksb$w_status == SS$_DEADLOCK);
+    CHECK(deq(&held) == SS$_NORMAL);
+}
+
 /* No thread of the layer delivers. */
 static void test_waits(void) {
     LKSB first, second;
@@ -647,11 +658,8 @@ int main(int count, char **words) {
     static const struct {
         const char *word;
         void (*run)(void);
-    } tests[] = {{"forked", test_forked},
-                 {"declared", test_declared},
-                 {"waits", test_waits},
-                 {"memory", test_memory},
-                 {"all", run_all}};
+    } tests[] = {{"forked", test_forked}, {"declared", test_declared}, {"locale", test_locale},
+                 {"waits", test_waits},   {"memory", test_memory},     {"all", run_all}};
     LKSB lksb;
     const char *word = count == 1 ? "all" : words[1];
     for (size_t at = 0; at < sizeof tests / sizeof *tests; at++)
