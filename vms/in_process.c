@@ -1,37 +1,33 @@
 /* The lock manager in this process, by vlm_threads.h. The process of the operating system is its only process. */
+#define _GNU_SOURCE /* strtod_l */
 #include "parts.h"
 
+#include <locale.h>
 #include <stdlib.h>
 #include <string.h>
 #include <unistd.h>
 
-enum { USUAL_WAIT = 10000, THOUSAND = 1000, TENTH = 100, DECIMAL = 10, SHARES = 10, SHORTEST = 10, QUEUES = 3 };
+enum { USUAL_WAIT = 10, THOUSAND = 1000, SHARES = 10, SHORTEST = 10, QUEUES = 3 };
 
 static vlm_threads *layer;
 static uint32_t own_pid;
 
-/* Milliseconds of seconds such as 10 or 0.5, rounded up; 0 for more than 32 bits hold. (In a locale with a comma strtod
- * would read 0.5 as 0.) */
-static uint32_t milliseconds_of(const char *text) {
-    char *rest;
-    unsigned long long seconds = strtoull(text, &rest, DECIMAL);
-    uint32_t fraction = 0;
-    if (seconds >= UINT32_MAX / THOUSAND)
-        return 0;
-    if (*rest == '.')
-        rest++;
-    else
-        rest = "";
-    for (uint32_t share = TENTH; share > 0 && *rest >= '0' && *rest <= '9'; share /= DECIMAL)
-        fraction += (uint32_t)(*rest++ - '0') * share;
-    bool is_more = strcspn(rest, "123456789") < strspn(rest, "0123456789");
-    return (uint32_t)seconds * THOUSAND + fraction + is_more;
+/* Seconds, perhaps with a fraction, which has a point in every locale. What is no number is the usual wait. */
+static double seconds_of(const char *text) {
+    locale_t plain = newlocale(LC_NUMERIC_MASK, "C", (locale_t)0);
+    char *end;
+    if (plain == (locale_t)0)
+        return USUAL_WAIT;
+    double seconds = strtod_l(text, &end, plain);
+    freelocale(plain);
+    return end != text && *end == 0 && seconds >= 0 ? seconds : USUAL_WAIT;
 }
 
-/* The deadlock wait in milliseconds, of VLM$DEADLOCK_WAIT. With 0 none is searched for. */
+/* The deadlock wait in milliseconds, rounded up, of VLM$DEADLOCK_WAIT. With 0 none is searched for. */
 static uint32_t deadlock_wait(void) {
     const char *text = vms_setting("DEADLOCK_WAIT");
-    return text != NULL ? milliseconds_of(text) : USUAL_WAIT;
+    double wait = THOUSAND * (text != NULL ? seconds_of(text) : USUAL_WAIT);
+    return wait < UINT32_MAX ? (uint32_t)wait + ((uint32_t)wait < wait) : 0;
 }
 
 /* How often it searches: ten times in a deadlock wait, and each second at least. */
