@@ -2,13 +2,17 @@
 
 ghost use Rattle.std.specs.Prelude.{◌≡◌};
 ghost use Rattle.std.specs.Option.{option_map};
+ghost use Rattle.vlm_words.specs.declared.conditions.Cond.TheVariants.{Normal};
 ghost use Rattle.vlm_words.specs.declared.steps.Answer.{Answer};
+ghost use Rattle.vlm_words.specs.Conditions.{condition_number};
 ghost use Rattle.vlm_lines.specs.Texts.{status_block_line, status_tail_line};
+ghost use Rattle.vlm_capi.specs.Structs.{node_of};
+ghost use Rattle.vlm_capi.specs.Copies.{Told};
 ghost use Rattle.vlm_capi.specs.Printed.{IsToldOf, answer_printed, answer_told, ast_told, ast_with, condition_of, row_told, status_printed, taken_printed, taken_told, text_of, told_printed};
 
 use crate::numbers::{mode_of, node_of};
 use crate::padding::line_cells;
-use crate::replies::VlmAst;
+use crate::replies::{VlmAst, status};
 use crate::script_lines::{DECLARE, LEAVE, SEARCH, VlmLine};
 use crate::shown::VlmLock;
 use std::mem::size_of;
@@ -34,15 +38,18 @@ pub struct VlmText {
     pub bytes: [u8; 248],
 }
 
-pub(crate) fn text_of(line: &PrintedLine) -> VlmText
-    ensures { result ≡ text_of line.now.items }
+/// Writes a printed line.
+pub(crate) fn write(line: &PrintedLine, text: &mut VlmText) -> u32
+    ensures line { text.new ≡ text_of line.now.items }
+    ensures status { result ≡ condition_number Normal }
 {
     let (bytes, len) = line_cells(line);
-    VlmText {
+    *text = VlmText {
         size: TEXT_SIZE,
         len,
         bytes,
-    }
+    };
+    status(Cond::Normal)
 }
 
 #[tactic(auto, unfolding(crate::specs::Printed::condition_of))]
@@ -131,66 +138,72 @@ fn taken_told(cond: Cond, ast: &VlmAst) -> Answer
 }
 
 #[tactic(auto, unfolding(crate::specs::Printed::answer_printed))]
-fn answer_printed(line: &VlmLine, answer: Answer) -> Option<PrintedLine>
-    ensures { option_map (λ text. text.items) result ≡ answer_printed line.now answer }
+fn write_answer(line: &VlmLine, answer: Answer, text: &mut VlmText) -> u32
+    ensures { Told (option_map text_of (answer_printed line.now answer)) text.old text.new result }
 {
     match line.kind {
-        LEAVE => Some(node_line(node_of(line.number)?, answer)),
-        SEARCH => Some(answer_line(b"search", answer)),
-        _ if line.name_len > 15 => None,
-        _ => Some(answer_line(&line.name[..line.name_len as usize], answer)),
+        LEAVE => match node_of(line.number) {
+            Some(node) => write(&node_line(node, answer), text),
+            None => status(Cond::Badparam),
+        },
+        SEARCH => write(&answer_line(b"search", answer), text),
+        _ if line.name_len > 15 => status(Cond::Badparam),
+        _ => {
+            let name = &line.name[..line.name_len as usize];
+            write(&answer_line(name, answer), text)
+        }
     }
 }
 
-/// The line of an answer to a line of a script.
-pub(crate) fn told_printed(line: &VlmLine, status: u32, number: u32) -> Option<PrintedLine>
-    ensures { option_map (λ text. text.items) result ≡ told_printed line.now (condition_of status) number }
+/// Writes the line of an answer to a line of a script.
+pub(crate) fn write_told(line: &VlmLine, cond: u32, number: u32, text: &mut VlmText) -> u32
+    ensures { Told (option_map text_of (told_printed line.now (condition_of cond) number)) text.old text.new result }
 {
-    let cond = condition_of(status)?;
-    answer_printed(line, answer_told(line.kind, cond, number))
+    match condition_of(cond) {
+        Some(cond) => write_answer(line, answer_told(line.kind, cond, number), text),
+        None => status(Cond::Badparam),
+    }
 }
 
-/// The line of a taken AST.
-pub(crate) fn taken_printed(line: &VlmLine, status: u32, ast: &VlmAst) -> Option<PrintedLine>
-    ensures { option_map (λ text. text.items) result ≡ taken_printed line.now (condition_of status) ast.now }
+/// Writes the line of a taken AST.
+pub(crate) fn write_taken(line: &VlmLine, cond: u32, ast: &VlmAst, text: &mut VlmText) -> u32
+    ensures { Told (option_map text_of (taken_printed line.now (condition_of cond) ast.now)) text.old text.new result }
 {
-    let cond = condition_of(status)?;
-    if line.name_len > 15 {
-        return None;
+    match condition_of(cond) {
+        Some(cond) if line.name_len <= 15 => {
+            let name = &line.name[..line.name_len as usize];
+            write(&answer_line(name, taken_told(cond, ast)), text)
+        }
+        _ => status(Cond::Badparam),
     }
-    Some(answer_line(&line.name[..line.name_len as usize], taken_told(cond, ast)))
 }
 
-/// The line of a status block; `None` without a core.
-pub(crate) fn block_printed(
-    line: &VlmLine,
-    number: Option<u8>,
-    shown: Option<Option<Block>>,
-) -> Option<PrintedLine>
-    ensures { option_map (λ text. text.items) result ≡ status_printed status_block_line line.now number shown }
+/// Writes the line of the status block that a line names. It writes nothing without a core.
+pub(crate) fn write_block(line: &VlmLine, shown: Option<Option<Block>>, text: &mut VlmText) -> u32
+    ensures { Told (option_map text_of (status_printed status_block_line line.now (node_of line.now.number) shown))
+        text.old text.new result }
 {
-    let number = number?;
-    let block = shown?;
-    if line.name_len > 15 {
-        return None;
+    match (node_of(line.number), shown) {
+        (Some(number), Some(block)) if line.name_len <= 15 => {
+            let name = &line.name[..line.name_len as usize];
+            write(&status_block_line(name, number, block), text)
+        }
+        _ => status(Cond::Badparam),
     }
-    Some(status_block_line(&line.name[..line.name_len as usize], number, block))
 }
 
-/// The line of the tail of a status block; `None` without a core.
-pub(crate) fn tail_printed(
-    line: &VlmLine,
-    number: Option<u8>,
-    shown: Option<Option<Block>>,
-) -> Option<PrintedLine>
-    ensures { option_map (λ text. text.items) result ≡ status_printed status_tail_line line.now number shown }
+/// Writes the line of the tail of the status block that a line names. It writes nothing without a core.
+pub(crate) fn write_tail(line: &VlmLine, shown: Option<Option<Block>>, text: &mut VlmText) -> u32
+    ensures { Told (option_map text_of (status_printed status_tail_line line.now (node_of line.now.number) shown))
+        text.old text.new result }
 {
-    let number = number?;
-    let block = shown?;
-    if line.name_len > 15 {
-        return None;
+    match (node_of(line.number), shown) {
+        (Some(number), Some(block)) if line.name_len <= 15 => {
+            let name = &line.name[..line.name_len as usize];
+            write(&status_tail_line(name, number, block), text)
+        }
+        _ => status(Cond::Badparam),
     }
-    Some(status_tail_line(&line.name[..line.name_len as usize], number, block))
 }
 
 /// The lock of a struct.

@@ -15,11 +15,9 @@ ghost use Rattle.vlm_capi.specs.ScriptLines.{read_struct};
 ghost use Rattle.vlm_capi.specs.Shown.{block_there, found_shown};
 ghost use Rattle.vlm_capi.specs.Structs.{node_of};
 
-use crate::copies::{copy_out, sized};
 use crate::handle::Handle;
-use crate::numbers::node_of;
 use crate::printed::{
-    TEXT_SIZE, VlmText, block_printed, row_told, tail_printed, taken_printed, text_of, told_printed,
+    TEXT_SIZE, VlmText, row_told, write, write_block, write_tail, write_taken, write_told,
 };
 use crate::replies::{AST_SIZE, VlmAst, status};
 use crate::resource_keys::queue_of;
@@ -44,34 +42,29 @@ pub extern "C" fn vlm_read_line(bytes: &[u8], line: &mut VlmLine) -> u32
 #[unsafe(no_mangle)]
 pub extern "C" fn vlm_print_answer(
     line: &VlmLine,
-    status: u32,
+    cond: u32,
     number: u32,
     text: &mut VlmText,
 ) -> u32
     ensures { Told (sized ((line.now.size == 464) && (text.old.size == 256))
-        (option_map text_of (told_printed line.now (condition_of status) number))) text.old text.new result }
+        (option_map text_of (told_printed line.now (condition_of cond) number))) text.old text.new result }
 {
-    let printed = told_printed(line, status, number).map(|printed| text_of(&printed));
-    copy_out(
-        sized(line.size == LINE_SIZE && text.size == TEXT_SIZE, printed),
-        text,
-    )
+    if line.size != LINE_SIZE || text.size != TEXT_SIZE {
+        return status(Cond::Badparam);
+    }
+    write_told(line, cond, number, text)
 }
 
 /// Prints what a Take was answered, or an AST that was taken for the process of a line.
 #[unsafe(no_mangle)]
-pub extern "C" fn vlm_print_ast(
-    line: &VlmLine,
-    status: u32,
-    ast: &VlmAst,
-    text: &mut VlmText,
-) -> u32
+pub extern "C" fn vlm_print_ast(line: &VlmLine, cond: u32, ast: &VlmAst, text: &mut VlmText) -> u32
     ensures { Told (sized ((line.now.size == 464) && (ast.now.size == 32) && (text.old.size == 256))
-        (option_map text_of (taken_printed line.now (condition_of status) ast.now))) text.old text.new result }
+        (option_map text_of (taken_printed line.now (condition_of cond) ast.now))) text.old text.new result }
 {
-    let fits = line.size == LINE_SIZE && ast.size == AST_SIZE && text.size == TEXT_SIZE;
-    let printed = taken_printed(line, status, ast).map(|printed| text_of(&printed));
-    copy_out(sized(fits, printed), text)
+    if line.size != LINE_SIZE || ast.size != AST_SIZE || text.size != TEXT_SIZE {
+        return status(Cond::Badparam);
+    }
+    write_taken(line, cond, ast, text)
 }
 
 /// Prints the status block of a process that a line names.
@@ -87,12 +80,10 @@ pub extern "C" fn vlm_print_block(
         (block_there (core_of handle.old.slot.held) pid line.now.number)))) text.old text.new result }
     ensures same { handle.new.slot.held ≡ handle.old.slot.held }
 {
-    let shown = handle.status_block(pid, line.number);
-    let printed = block_printed(line, node_of(line.number), shown).map(|printed| text_of(&printed));
-    copy_out(
-        sized(line.size == LINE_SIZE && text.size == TEXT_SIZE, printed),
-        text,
-    )
+    if line.size != LINE_SIZE || text.size != TEXT_SIZE {
+        return status(Cond::Badparam);
+    }
+    write_block(line, handle.status_block(pid, line.number), text)
 }
 
 /// Prints the tail of a status block of a process that a line names.
@@ -108,12 +99,10 @@ pub extern "C" fn vlm_print_tail(
         (block_there (core_of handle.old.slot.held) pid line.now.number)))) text.old text.new result }
     ensures same { handle.new.slot.held ≡ handle.old.slot.held }
 {
-    let shown = handle.status_block(pid, line.number);
-    let printed = tail_printed(line, node_of(line.number), shown).map(|printed| text_of(&printed));
-    copy_out(
-        sized(line.size == LINE_SIZE && text.size == TEXT_SIZE, printed),
-        text,
-    )
+    if line.size != LINE_SIZE || text.size != TEXT_SIZE {
+        return status(Cond::Badparam);
+    }
+    write_tail(line, handle.status_block(pid, line.number), text)
 }
 
 /// Prints the resource that parent, domain and name of the struct name, without its queues.
@@ -128,16 +117,13 @@ pub extern "C" fn vlm_print_resource(
         (found_shown (core_of handle.old.slot.held) (key_of resource.now)))) text.old text.new result }
     ensures same { handle.new.slot.held ≡ handle.old.slot.held }
 {
-    let printed = handle
-        .find(resource)
-        .map(|view| text_of(&resource_line(&view)));
-    copy_out(
-        sized(
-            resource.size == RESOURCE_SIZE && text.size == TEXT_SIZE,
-            printed,
-        ),
-        text,
-    )
+    if resource.size != RESOURCE_SIZE || text.size != TEXT_SIZE {
+        return status(Cond::Badparam);
+    }
+    match handle.find(resource) {
+        Some(view) => write(&resource_line(&view), text),
+        None => status(Cond::Badparam),
+    }
 }
 
 /// Prints the tail of the value block of the resource that parent, domain and name of the struct name.
@@ -152,14 +138,13 @@ pub extern "C" fn vlm_print_resource_tail(
         (found_shown (core_of handle.old.slot.held) (key_of resource.now)))) text.old text.new result }
     ensures same { handle.new.slot.held ≡ handle.old.slot.held }
 {
-    let printed = handle.find(resource).map(|view| text_of(&tail_line(&view)));
-    copy_out(
-        sized(
-            resource.size == RESOURCE_SIZE && text.size == TEXT_SIZE,
-            printed,
-        ),
-        text,
-    )
+    if resource.size != RESOURCE_SIZE || text.size != TEXT_SIZE {
+        return status(Cond::Badparam);
+    }
+    match handle.find(resource) {
+        Some(view) => write(&tail_line(&view), text),
+        None => status(Cond::Badparam),
+    }
 }
 
 /// Prints a lock in its queue.
@@ -169,9 +154,11 @@ pub extern "C" fn vlm_print_lock(lock: &VlmLock, text: &mut VlmText) -> u32
         (option_map (λ queue. text_of (row_line queue (row_told lock.now))) (queue_of lock.now.queue)))
         text.old text.new result }
 {
-    let printed = queue_of(lock.queue).map(|queue| text_of(&row_line(queue, &row_told(lock))));
-    copy_out(
-        sized(lock.size == LOCK_SIZE && text.size == TEXT_SIZE, printed),
-        text,
-    )
+    if lock.size != LOCK_SIZE || text.size != TEXT_SIZE {
+        return status(Cond::Badparam);
+    }
+    match queue_of(lock.queue) {
+        Some(queue) => write(&row_line(queue, &row_told(lock)), text),
+        None => status(Cond::Badparam),
+    }
 }
