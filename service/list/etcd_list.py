@@ -33,6 +33,8 @@ from members import Place
 _T = TypeVar("_T")
 # How long a member may take to answer, and the pause after no member did.
 _SECONDS, _PAUSE = 2.0, 0.2
+# Bytes a second of the slowest line: what takes long to send gets so much more time. Else no try would ever succeed.
+_SLOWEST = 128 << 10
 # After how long the log tells that no member does.
 _LONG = 5.0
 # How long a member may take to tell what it has itself. It needs no other member for that.
@@ -42,7 +44,7 @@ _OPTIONS = [("grpc.max_receive_message_length", 1 << 26), ("grpc.keepalive_time_
             ("grpc.keepalive_timeout_ms", 3_000), ("grpc.initial_reconnect_backoff_ms", 200),
             ("grpc.max_reconnect_backoff_ms", 1_000)]
 # How many batches a page has that is read, or one of batches so long that more do not fit into an answer; how long a
-# member may take to send a page; how many keys a transaction deletes: etcd's limit is 128.
+# member may take to send a page or a chunk; how many keys a transaction deletes: etcd's limit is 128.
 _PAGE, _SHORT_PAGE, _PAGE_SECONDS, _DELETED = 500, 32, 20.0, 100
 _PASSING = {grpc.StatusCode.UNAVAILABLE, grpc.StatusCode.DEADLINE_EXCEEDED, grpc.StatusCode.INTERNAL,
             grpc.StatusCode.RESOURCE_EXHAUSTED, grpc.StatusCode.CANCELLED, grpc.StatusCode.UNKNOWN}
@@ -94,6 +96,11 @@ def _reason(failed: Exception) -> str:
     if not isinstance(failed, grpc.Call):
         return failed.code().name if isinstance(failed, grpc.RpcError) else repr(failed)
     return f"{failed.code().name}: {failed.details()}"
+
+
+def _time_for(value: bytes) -> float:
+    """How long a member may take to put a value."""
+    return _SECONDS + len(value) / _SLOWEST
 
 
 def _after(prefix: bytes) -> bytes:
@@ -176,8 +183,8 @@ class EtcdList:
     def append(self, name: str, batch: bytes, is_there: Callable[[], bool] = lambda: False) -> Optional[int]:
         """Appends a batch. Returns its revision, or None if it was there already: an earlier try may have put it. It is
         not tried again once it is there: etcd may be slower than a call may take."""
-        put = self.call("append", lambda client: None if is_there() else
-                        client.put(self._entries + name, batch, prev_kv=True))
+        request = etcdrpc.PutRequest(key=(self._entries + name).encode(), value=batch, prev_kv=True)
+        put = self.call("append", lambda client: None if is_there() else client.kvstub.Put(request, _time_for(batch)))
         if put is not None:
             self.note_cluster(put.header)
         return None if put is None or put.HasField("prev_kv") else int(put.header.revision)
@@ -195,7 +202,8 @@ class EtcdList:
         while True:
             key = self._chunk_key(known + 1)
             # (the end is what follows all digits)
-            found = self._range(key, range_end=self._chunks + ":", limit=1, revision=revision).kvs
+            found = self._range(key, range_end=self._chunks + ":", seconds=_PAGE_SECONDS, limit=1,
+                                revision=revision).kvs
             if not found:
                 return
             if found[0].key != key.encode():
@@ -259,13 +267,11 @@ class EtcdList:
 
     def pack(self, number: int, chunk: bytes) -> bool:
         """Writes a chunk. Returns whether it was written: of several writers of one chunk, one writes it."""
-        key = self._chunk_key(number)
-
-        def ask(client: Any) -> bool:
-            make = client.transactions
-            return client.transaction([make.create(key) == 0], [make.put(key, chunk)], [])[0]
-
-        return self.call("append", ask)
+        key = self._chunk_key(number).encode()
+        is_new = etcdrpc.Compare(key=key, target=etcdrpc.Compare.CREATE, create_revision=0)
+        put = etcdrpc.RequestOp(request_put=etcdrpc.PutRequest(key=key, value=chunk))
+        request = etcdrpc.TxnRequest(compare=[is_new], success=[put])
+        return bool(self.call("append", lambda client: client.kvstub.Txn(request, _time_for(chunk))).succeeded)
 
     def _chunk_key(self, number: int) -> str:
         return f"{self._chunks}{number:08}"

@@ -61,16 +61,18 @@ class Member:
     def __init__(self):
         self.kvstub, self.channel, self.has_put = self, self, set()
         self.fails, self.calls = set(), {"append": 0, "read": 0, "presence": 0}
+        self.seconds = []
         self.cluster = HEADER.cluster_id
         self.failure, self.before_failure = Failed, lambda: None
 
-    def put(self, key, _value, prev_kv):
-        assert prev_kv
+    def Put(self, request, seconds):
+        assert request.prev_kv
+        self.seconds.append(seconds)
         self._call("append")
         put = etcdrpc.PutResponse(header=etcdrpc.ResponseHeader(revision=9, cluster_id=self.cluster))
-        if key in self.has_put:
+        if request.key in self.has_put:
             put.prev_kv.create_revision = 8
-        self.has_put.add(key)
+        self.has_put.add(request.key)
         return put
 
     def Range(self, request, *_):
@@ -116,6 +118,19 @@ class Members(unittest.TestCase):
 
     def test_an_append_that_is_repeated_has_no_revision(self):
         self.assertEqual([self.store.append(name, b"") for name in "aba"], [9, 9, None])
+
+    def test_what_is_long_has_the_time_that_a_slow_line_needs(self):
+        for length in (100, 512 << 10):
+            self.store.append("a", bytes(length))
+        short, long = self.members[0].seconds
+        self.assertLess(short, 2.1)
+        self.assertGreaterEqual(long, 6)
+        self.members[0].Txn = mock.Mock(return_value=etcdrpc.TxnResponse(succeeded=True))
+        self.assertTrue(self.store.pack(1, bytes(512 << 10)))
+        self.members[0].Range = mock.Mock(return_value=SimpleNamespace(header=HEADER, kvs=[]))
+        self.assertEqual(list(self.store.chunks(0, 9)), [])
+        for call in (self.members[0].Txn, self.members[0].Range):
+            self.assertGreaterEqual(call.call_args[0][1], 6)
 
     def test_a_member_that_refuses_is_passed_over_and_all_of_them_are_believed(self):
         for member in self.members[:2]:
