@@ -65,6 +65,11 @@ class Compacted(Exception):
     """etcd has forgotten the revisions that were asked for: read the chunks."""
 
 
+class Ended(Exception):
+    """A watch has ended. What came since then is to be read: over a slow line, a long batch makes a watch seem to hang
+    each time that it is opened, and a page of the list may take longer."""
+
+
 @dataclass(frozen=True)
 class Chunk:
     """A chunk of the list: its number, the revision up to which it goes, and what it keeps."""
@@ -296,7 +301,7 @@ def _batch(pair: Any) -> Batch:
 
 
 class Watch:
-    """The batches from a revision on. It goes on at the next member if one ends it. One thread calls `next`."""
+    """The batches from a revision on, up to its end. The next one is at the next member. One thread calls `next`."""
 
     def __init__(self, store: EtcdList, prefix: bytes, revision: int) -> None:
         self._store, self._prefix, self._revision = store, prefix, revision
@@ -305,7 +310,7 @@ class Watch:
         self._member = 0
 
     def next(self) -> List[Batch]:
-        """Waits for the next batches. Raises Compacted if etcd has forgotten them."""
+        """Waits for the next batches. Raises Compacted if etcd has forgotten them, and Ended."""
         while True:
             try:
                 response = next(self._opened())
@@ -316,7 +321,7 @@ class Watch:
                 time.sleep(_PAUSE)
                 if self._store.revision() < self._revision - 1:
                     raise Broken("etcd has lost what it had told") from None
-                continue
+                raise Ended from None
             self._store.note_cluster(response.header)
             if response.compact_revision:
                 self.cancel()

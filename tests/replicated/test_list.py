@@ -24,7 +24,7 @@ import grpc  # noqa: E402
 from etcd3 import etcdrpc  # noqa: E402
 import etcd_list  # noqa: E402
 from chunks import Batch, Log, ahead, pack, unpack  # noqa: E402
-from etcd_list import Broken, Chunk, Compacted, EtcdList  # noqa: E402
+from etcd_list import Broken, Chunk, Compacted, Ended, EtcdList  # noqa: E402
 from members import Place  # noqa: E402
 
 vlm_list = SourceFileLoader("vlm_list", str(LIST / "vlm-list")).load_module("vlm_list")
@@ -211,7 +211,8 @@ class Members(unittest.TestCase):
             while not events.done():
                 watch.check()
                 time.sleep(0.01)
-            self.assertEqual(events.result(), [Batch(9, "a", b"batch")])
+            self.assertIsInstance(events.exception(), Ended)
+            self.assertEqual(self.store.watch(1).next(), [Batch(9, "a", b"batch")])
         self.assertEqual(opened, [0, 1])
 
 
@@ -397,6 +398,14 @@ class Keeping(unittest.TestCase):
         self.keeper._learn()
         self.keeper._read()
         self.assertEqual(self.told(), [1, 2, 3])
+
+    def test_what_came_before_a_watch_ended_is_read(self):
+        reads = []
+        self.store.batches = lambda after, _: reads.append(after) or [Ends.batch(5, 1, 4)]
+        self.store.watch = lambda _: SimpleNamespace(next=mock.Mock(side_effect=[Ended, ValueError][len(reads) - 1]))
+        self.assertRaises(ValueError, self.keeper._follow)
+        # (what was told is not read again)
+        self.assertEqual(reads, [3, 5])
 
     def test_an_append_that_nothing_can_precede_is_told_at_once(self):
         own = Ends.batch(2, 1, 2)
