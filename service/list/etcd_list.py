@@ -15,7 +15,7 @@ import logging
 import os
 import time
 from dataclasses import dataclass
-from typing import Any, Callable, Iterator, List, Optional, Sequence, Set, Tuple, TypeVar
+from typing import Any, Callable, Dict, Iterator, List, Optional, Sequence, Set, Tuple, TypeVar
 
 # Between calls the library looks at its connections each five seconds only. One that is to be made again after an
 # outage needs several looks, and leases would run out before. (It reads this when it is imported.)
@@ -37,7 +37,7 @@ _SECONDS, _PAUSE = 2.0, 0.2
 _SLOWEST = 128 << 10
 # After how long the log tells that no member does.
 _LONG = 5.0
-# How long a member may take to tell what it has itself. It needs no other member for that.
+# How long a member may take to tell what it has itself, beside the way to it. It needs no other member for that.
 _PRESENT = 0.5
 # A chunk may have 1.5 MB, and a page of entries several: the library's limit for answers is 4 MB.
 _OPTIONS = [("grpc.max_receive_message_length", 1 << 26), ("grpc.keepalive_time_ms", 10_000),
@@ -125,6 +125,8 @@ class EtcdList:
                          for host, port in pairs]
         self._places = {kind: Place(len(pairs)) for kind in ("append", "read", "watch")}
         self._entries, self._chunks = prefix + "entries/", prefix + "packed/"
+        # How long the last reading of each member took: the way to it and back, and what it read.
+        self._ways: Dict[int, float] = {}
         # The identification that members gave of their cluster.
         self._clusters: Set[int] = set()
 
@@ -179,11 +181,15 @@ class EtcdList:
         """Whether a member answers. One that does may still have no leader."""
         own = etcdrpc.RangeRequest(key=self._entries.encode(), serializable=True)
         try:
-            answer = self._clients[member].kvstub.Range(own, _PRESENT)
+            answer = self._clients[member].kvstub.Range(own, _PRESENT + self._ways.get(member, 0.0))
         except grpc.RpcError:
             return False
         self.note_cluster(answer.header)
         return True
+
+    def _note_way(self, member: int, took: float) -> None:
+        """Notes how long an answer took. A member that is far away would seem to hang."""
+        self._ways[member] = min(took, _SECONDS)
 
     def append(self, name: str, batch: bytes, is_there: Callable[[], bool] = lambda: False) -> Optional[int]:
         """Appends a batch. Returns its revision, or None if it was there already: an earlier try may have put it. It is
@@ -243,7 +249,10 @@ class EtcdList:
 
         def ask(client: Any) -> Any:
             try:
-                return client.kvstub.Range(request, seconds)
+                begun = time.monotonic()
+                answer = client.kvstub.Range(request, seconds)
+                self._note_way(self._clients.index(client), time.monotonic() - begun)
+                return answer
             except grpc.RpcError as failed:
                 if _is_code(failed, grpc.StatusCode.RESOURCE_EXHAUSTED) and "larger than max" in _reason(failed):
                     raise TooLong from None

@@ -61,7 +61,7 @@ class Member:
     def __init__(self):
         self.kvstub, self.channel, self.has_put = self, self, set()
         self.fails, self.calls = set(), {"append": 0, "read": 0, "presence": 0}
-        self.seconds = []
+        self.seconds, self.way = [], 0.0
         self.cluster = HEADER.cluster_id
         self.failure, self.before_failure = Failed, lambda: None
 
@@ -75,8 +75,11 @@ class Member:
         self.has_put.add(request.key)
         return put
 
-    def Range(self, request, *_):
+    def Range(self, request, seconds):
         self._call("presence" if request.serializable else "read")
+        if seconds < self.way:
+            raise Failed
+        time.sleep(self.way)
         return SimpleNamespace(header=SimpleNamespace(revision=1, cluster_id=self.cluster), kvs=[])
 
     def _call(self, kind):
@@ -109,6 +112,12 @@ class Members(unittest.TestCase):
         self.assertEqual([sum(it.calls[kind] for kind in ("read", "append")) > 0 for it in self.members],
                          [True, True, False])
         self.assertEqual(self.calls("read")[1:], [0, 0])
+
+    def test_a_member_that_is_far_away_does_not_hang(self):
+        self.members[0].way = etcd_list._PRESENT + 0.1
+        self.assertFalse(self.store.is_present(0))
+        self.store.revision()
+        self.assertTrue(self.store.is_present(0))
 
     def test_a_member_that_hangs_is_passed_over(self):
         self.members[0].fails = {"append"}
