@@ -377,7 +377,9 @@ vlm lock --connect tcp:127.0.0.1:7001 backup \\
     sh -c 'vlm lock --connect tcp:127.0.0.1:7002 -n backup echo mine || echo busy'
 vlm lock --connect tcp:127.0.0.1:7002 -w 5 backup echo mine
 kill %1
-python3 -c "import etcd3; c = etcd3.client(port=23790); c.delete(min(it.key for _, it in c.get_prefix('vlm/entries/')))"
+python3 -c "import etcd3
+list = etcd3.client('127.0.0.1', 23790)
+list.delete(min(it.key for _, it in list.get_prefix('vlm/entries/')))"
 systemctl restart vlmd 2>/dev/null || systemctl show --property ExecMainStatus --property NRestarts vlmd
 rm -r /etc/systemd/system/vlmd.service.d
 : >/etc/vlmd.conf
