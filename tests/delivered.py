@@ -395,7 +395,7 @@ def is_replicated(machine):
     folder = machine.folder / "etc/systemd/system/vlmd.service.d"
     folder.mkdir()
     (folder / "override.conf").write_text(added)
-    yield from difference(machine.run(REPLICAS).stdout, "busy\nmine\nExecMainStatus=3\nNRestarts=0\n")
+    yield from difference(machine.run(REPLICAS).stdout, "busy\nmine\nNRestarts=0\nExecMainStatus=3\n")
 
 
 def is_kept(machine):
