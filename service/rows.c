@@ -3,8 +3,8 @@
 
 #include <string.h>
 
-/* Reads a line. What follows a zero byte, as a crash of the machine may leave it, or is too much, is no line of its
- * own: it might give rights. */
+/* Reads a line. If it is too long or has a zero byte, which a crash of the machine may leave, the row is not whole: its
+ * rest, read as a line of its own, might grant rights. */
 static bool read_text(FILE *from, struct row *row) {
     int byte;
     size_t len = 0;

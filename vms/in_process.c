@@ -12,7 +12,8 @@ enum { USUAL_WAIT = 10, THOUSAND = 1000, SHARES = 10, SHORTEST = 10, QUEUES = 3 
 static vlm_threads *layer;
 static uint32_t own_pid;
 
-/* Seconds, perhaps with a fraction, which has a point in every locale. What is no number is the usual wait. */
+/* Reads seconds, perhaps with a fraction, with a decimal point in every locale. Returns the usual wait for a value that
+ * is not a number. */
 static double seconds_of(const char *text) {
     locale_t plain = newlocale(LC_NUMERIC_MASK, "C", (locale_t)0);
     char *end;

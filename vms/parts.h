@@ -168,7 +168,7 @@ void vms_warn(struct lock *lock);
 void vms_begin_dequeue(bool is_alone);
 void vms_end_dequeue(void);
 
-/* enq.c: queues the blocking ASTs of all locks, which are lost. A routine of the lock manager below. */
+/* enq.c: queues the blocking ASTs of all locks, after they were lost. The layer below calls it. */
 void vms_lost(void *unused);
 
 /* items.c: writes an item of a lock into a buffer. *written is how many bytes, *whole how many there are, and *each how
