@@ -141,7 +141,7 @@ bool read_config(const char *file, bool must_be_there, struct config *config) {
     return false;
 }
 
-/* Whether all members are HOST:PORT: a URL would be asked in vain. */
+/* Whether each member is HOST:PORT. A URL would never answer. */
 static bool are_members(const char *members) {
     char text[WORD], *rest = text;
     uint32_t port;

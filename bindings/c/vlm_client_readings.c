@@ -75,8 +75,8 @@ static uint32_t read_text(vlm_client *client, const char *word, uint32_t lkid, c
     return status == VLM_NORMAL && *text == NULL ? VLM_INSFMEM : status;
 }
 
-/* Whether a line begins with a word. A blank line and a comment have no answer, that of a numbered line has no blank
- * line at its end. */
+/* Whether a line begins with a word. The service does not answer a blank line or a comment, and ends the answer to a
+ * numbered line without a blank line. */
 static bool is_line(const char *word) {
     char first = word[strspn(word, " \t\r")];
     return first >= 'a' && first <= 'z' && strlen(word) <= LINE_ROOM / 2 && strchr(word, '\n') == NULL;

@@ -17,8 +17,8 @@ import time
 from dataclasses import dataclass
 from typing import Any, Callable, Dict, Iterator, List, Optional, Sequence, Set, Tuple, TypeVar
 
-# Between calls the library looks at its connections each five seconds only. One that is to be made again after an
-# outage needs several looks, and leases would run out before. (It reads this when it is imported.)
+# Between calls gRPC looks at its connections only every five seconds, and needs several looks to connect again after an
+# outage. Leases would run out meanwhile. (gRPC reads this variable when it is imported.)
 os.environ.setdefault("GRPC_CLIENT_CHANNEL_BACKUP_POLL_INTERVAL_MS", "100")
 
 import etcd3
@@ -33,11 +33,11 @@ from members import Place
 _T = TypeVar("_T")
 # How long a member may take to answer, and the pause after no member did.
 _SECONDS, _PAUSE = 2.0, 0.2
-# Bytes a second of the slowest line: what takes long to send gets so much more time. Else no try would ever succeed.
+# The slowest line that works, in bytes a second. A put gets time for its length at this rate: else no try succeeds.
 _SLOWEST = 128 << 10
 # After how long the log tells that no member does.
 _LONG = 5.0
-# How long a member may take to tell what it has itself, beside the way to it. It needs no other member for that.
+# How long a member may take to answer from its own memory, in addition to the round trip. It needs no other member.
 _PRESENT = 0.5
 # A chunk may have 1.5 MB, and a page of entries several: the library's limit for answers is 4 MB.
 _OPTIONS = [("grpc.max_receive_message_length", 1 << 26), ("grpc.keepalive_time_ms", 10_000),
@@ -125,9 +125,9 @@ class EtcdList:
                          for host, port in pairs]
         self._places = {kind: Place(len(pairs)) for kind in ("append", "read", "watch")}
         self._entries, self._chunks = prefix + "entries/", prefix + "packed/"
-        # How long the last reading of each member took: the way to it and back, and what it read.
+        # How many seconds the last reading of each member took.
         self._ways: Dict[int, float] = {}
-        # The identification that members gave of their cluster.
+        # The IDs of the clusters of all members that have answered.
         self._clusters: Set[int] = set()
 
     def note_cluster(self, header: Any) -> None:
