@@ -164,7 +164,7 @@ module _ (hash : Key → ℕ) (x x' : KeyIndex) (label label' : ℕ → Option H
   differs : (label : ℕ → Option HashedKey) (b : ℕ) (j : HashedKey) → label at ≡ None → label b ≡ Some j → b ≢ at
   differs label b j none is same = none-some j (sym none ∙ ap label (sym same) ∙ is)
 
-  -- no other handle has what the handle has now
+  -- the label that `at` has now stands at no other handle
   abbrev IsAlone : Type 0
   IsAlone = (b : ℕ) (j : HashedKey) → label' at ≡ Some j → label' b ≡ Some j → at ≡ b
 
