@@ -294,7 +294,7 @@ def replicas_lost(_program):
 def unprinted():
     """An answer that can't be printed, or that ends early, is told as such."""
     with Daemon() as daemon, open("/dev/full", "w") as full:
-        for words in (["who"], ["who", "--json"], ["metrics"]):
+        for words in (["who"], ["who", "--json"], ["metrics"], ["lock", "--help"]):
             made = subprocess.run([VLM(), *words], stdout=full, stderr=subprocess.PIPE, text=True, timeout=SECONDS,
                                   env={**os.environ, "VLM_SOCKET": daemon.socket})
             yield from difference((words, made.returncode, made.stderr),
@@ -344,7 +344,9 @@ def front(_program):
     with Daemon() as daemon:
         for words in (["play"], ["--help"], [], ["frob", "lock"]):
             yield from difference((words, run(daemon, *words)), (words, (3, f"program: {' '.join(words)}\n")))
-        yield from difference(run(daemon, "lock", "--help")[0], 0)
+        for command in ("lock", "who", "metrics", "kill"):
+            status, told = run(daemon, command, "--help")
+            yield from difference((status, told.startswith(f"usage: vlm {command} ")), (0, True))
 
 
 def turned_away(_program):
@@ -376,7 +378,7 @@ def completed(_program):
     script = ('. "$0"; COMP_WORDS=(vlm "$@"); COMP_CWORD=$#; _vlm; echo "${COMPREPLY[@]}"')
     for words, wanted in ((["lo"], "lock"), (["lock", "-m", "P"], "PR PW"), (["lock", "--va"], "--value"),
                           (["who", "--j"], "--json"), (["lock", "--co"], "--connect"), (["who", "--co"], "--connect"),
-                          (["kill", "-"], "--connect"), (["metrics", "-"], "--connect"),
+                          (["kill", "-"], "--connect --help"), (["metrics", "--c"], "--connect"),
                           (["lock", "--on-blocking", "SIGUSR"], "SIGUSR1 SIGUSR2")):
         made = subprocess.run(["bash", "-c", script, TOP / "service/commands/completion.bash", *words],
                               capture_output=True, text=True, timeout=20)

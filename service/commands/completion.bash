@@ -20,12 +20,12 @@ _vlm() {
             fi
             ;;
         kill,*)
-            [[ $current == -* ]] && COMPREPLY=(--connect) && return
+            [[ $current == -* ]] && mapfile -t COMPREPLY < <(compgen -W '--connect --help' -- "$current") && return
             sessions=$(timeout 2 vlm who 2>/dev/null | awk 'NR > 1 {print $5}' | sort -u)
             mapfile -t COMPREPLY < <(compgen -W "$sessions" -- "$current")
             ;;
-        metrics,*) [[ $current == -* ]] && COMPREPLY=(--connect) ;;
-        who,*) mapfile -t COMPREPLY < <(compgen -W '--connect -w --json' -- "$current") ;;
+        metrics,*) mapfile -t COMPREPLY < <(compgen -W '--connect --help' -- "$current") ;;
+        who,*) mapfile -t COMPREPLY < <(compgen -W '--connect -w --json --help' -- "$current") ;;
     esac
 }
 complete -F _vlm vlm

@@ -56,6 +56,9 @@ int run_who(int count, char **words);
 int run_metrics(int count, char **words);
 int run_kill(int count, char **words);
 
+/* How they are used. */
+extern const char lock_usage[], who_usage[], metrics_usage[], kill_usage[];
+
 /* Writes a usage text to standard error, and returns the status of wrong words. */
 int wrong_words(const char *usage);
 

@@ -16,8 +16,8 @@
 
 enum { NOT_FOUND = 127, NOT_RUN = 126 };
 
-static const char usage[] = "vlm lock [--connect ADDRESS] [-m MODE] [-n] [-w SECONDS] [-E STATUS] [--value HEX] "
-                            "[--on-blocking SIGNAL] NAME COMMAND..";
+const char lock_usage[] = "vlm lock [--connect ADDRESS] [-m MODE] [-n] [-w SECONDS] [-E STATUS] [--value HEX] "
+                          "[--on-blocking SIGNAL] NAME COMMAND..";
 
 static bool read_value(const char *word, const char **value) {
     *value = word;
@@ -179,12 +179,8 @@ static int run_command(struct holding *holding, const struct wanted *wanted) {
 int run_lock(int count, char **words) {
     struct wanted wanted = {.address = usual_address(), .mode = "EX", .wait = FOREVER, .conflict = 1};
     struct holding holding = {.descriptor = -1};
-    if (count == 2 && strcmp(words[1], "--help") == 0) {
-        printf("usage: %s\n", usage);
-        return 0;
-    }
     if (!read_words(count, words, &wanted))
-        return wrong_words(usage);
+        return wrong_words(lock_usage);
     holding.way = vlmc_is_replicated(wanted.address) ? &by_lease : &by_connection;
     switch (holding.way->get(&holding, &wanted)) {
     case GRANTED: return run_command(&holding, &wanted);

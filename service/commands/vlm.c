@@ -11,6 +11,8 @@
 
 enum { PATH = 4096, NAME = 32 };
 
+static const char proof_usage[] = "vlm --proof";
+
 /* Writes the path of a file of this installation. */
 static void path_of(const char *name, char *path) {
     ssize_t len = readlink("/proc/self/exe", path, PATH);
@@ -32,7 +34,7 @@ static int run_proof(int count, char **words) {
     char path[PATH + NAME], bytes[4096];
     size_t len = 0;
     if (count > 1)
-        return wrong_words("vlm --proof");
+        return wrong_words(proof_usage);
     path_of("share/vlm/proved", path);
     FILE *file = fopen(path, "re");
     if (file != NULL) {
@@ -47,14 +49,26 @@ static int run_proof(int count, char **words) {
     return end_output(1);
 }
 
+static int print_usage(const char *usage) {
+    printf("usage: %s\n", usage);
+    return end_output(1);
+}
+
 int main(int count, char **words) {
     static const struct {
-        const char *word;
+        const char *word, *usage;
         int (*run)(int count, char **words);
-    } commands[] = {
-        {"lock", run_lock}, {"who", run_who}, {"metrics", run_metrics}, {"kill", run_kill}, {"--proof", run_proof}};
-    for (size_t at = 0; count > 1 && at < sizeof commands / sizeof *commands; at++)
-        if (strcmp(words[1], commands[at].word) == 0)
-            return commands[at].run(count - 1, words + 1);
+    } commands[] = {{"lock", lock_usage, run_lock},
+                    {"who", who_usage, run_who},
+                    {"metrics", metrics_usage, run_metrics},
+                    {"kill", kill_usage, run_kill},
+                    {"--proof", proof_usage, run_proof}};
+    for (size_t at = 0; count > 1 && at < sizeof commands / sizeof *commands; at++) {
+        if (strcmp(words[1], commands[at].word) != 0)
+            continue;
+        if (count == 3 && strcmp(words[2], "--help") == 0)
+            return print_usage(commands[at].usage);
+        return commands[at].run(count - 1, words + 1);
+    }
     return run_program(words);
 }

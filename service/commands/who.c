@@ -7,7 +7,9 @@
 
 enum { COLUMNS = 13, WANTED = 5, STATE = 6, COMMAND = 10, SESSION = 8, BLOCKER = 12 };
 
-static const char usage[] = "vlm who [--connect ADDRESS] [-w] [--json] [NAME]";
+const char who_usage[] = "vlm who [--connect ADDRESS] [-w] [--json] [NAME]";
+const char metrics_usage[] = "vlm metrics [--connect ADDRESS]";
+const char kill_usage[] = "vlm kill [--connect ADDRESS] SESSION";
 static const char *const keys[COLUMNS] = {"name", "serial",  "parent", "domain", "held",    "wanted", "state",
                                           "lock", "session", "pid",    "uid",    "command", "seconds"};
 
@@ -115,14 +117,14 @@ int run_who(int count, char **words) {
     int option;
     while ((option = getopt_long(count, words, "w", longer, NULL)) != -1) {
         if (option == '?')
-            return wrong_words(usage);
+            return wrong_words(who_usage);
         if (option == 'c')
             address = optarg;
         shown.is_json |= option == 'j';
         shown.is_waiting_only |= option == 'w';
     }
     if (count - optind > 1 || (optind < count && !write_asked(words[optind], name)))
-        return wrong_words(usage);
+        return wrong_words(who_usage);
     snprintf(text, sizeof text, "who %s\n", name);
     if (!link_open(&link, address) || !link_send(&link, text))
         return NO_SERVICE;
@@ -135,7 +137,7 @@ int run_metrics(int count, char **words) {
     const char *address;
     int from = read_address(count, words, &address);
     if (from == 0 || from != count)
-        return wrong_words("vlm metrics [--connect ADDRESS]");
+        return wrong_words(metrics_usage);
     if (!link_open(&link, address) || !link_send(&link, "metrics\n"))
         return NO_SERVICE;
     int got;
@@ -150,7 +152,7 @@ int run_kill(int count, char **words) {
     const char *address;
     int from = read_address(count, words, &address);
     if (from == 0 || from != count - 1 || strlen(words[from]) != 16 || strspn(words[from], "0123456789abcdef") != 16)
-        return wrong_words("vlm kill [--connect ADDRESS] SESSION");
+        return wrong_words(kill_usage);
     snprintf(line, sizeof line, "kill %s\n", words[from]);
     if (!link_open(&link, address) || !link_send(&link, line))
         return NO_SERVICE;
