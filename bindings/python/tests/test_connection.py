@@ -216,6 +216,15 @@ class Connections(unittest.TestCase):
         q.deq(lock)
         q.deq(0, DequeueFlags.DEQALL)
 
+    def test_routines_are_callables(self):
+        p = self.connection().declare()
+        self.assertRaises(TypeError, connect, self.socket, on_lost=5)
+        self.assertRaises(TypeError, p.start, "A", Mode.EX, 5)
+        self.assertRaises(TypeError, p.lock, "A", Mode.EX, blocking=5)
+        with p.lock("A", Mode.EX) as held:
+            self.assertRaises(TypeError, held.convert, Mode.PR, blocking=5)
+            self.assertEqual(held.mode, Mode.EX)
+
     def test_a_grant_at_once_is_told_alike(self):
         p, told = self.connection().declare(), []
         lock = p.start("A", Mode.EX, told.append, flags=Flags.SYNCSTS)

@@ -24,6 +24,12 @@ def mark(flag: Any) -> int:
     return 1 if flag else 0
 
 
+def need_routines(*routines: Any) -> None:
+    """Wants callables, or None for no routine."""
+    if not all(it is None or callable(it) for it in routines):
+        raise TypeError("a routine is a callable")
+
+
 def name_bytes(name: Name) -> bytes:
     """The bytes of a resource name."""
     return name.encode() if isinstance(name, str) else bytes(memoryview(name))

@@ -5,6 +5,7 @@ from itertools import count
 from typing import Any, Callable, Dict, Optional
 
 from . import _library as raw
+from ._arguments import need_routines
 from .values import AstKind, Condition, Event, Mode
 
 Call = Callable[[Event], object]
@@ -15,8 +16,7 @@ class Context:
 
     def __init__(self, completion: Optional[Call], blocking: Optional[Call],
                  released: Optional[Callable[[], object]] = None) -> None:
-        if not all(it is None or callable(it) for it in (completion, blocking)):
-            raise TypeError("a routine is a callable")
+        need_routines(completion, blocking)
         self.completion, self.blocking, self.released = completion, blocking, released
 
 

@@ -12,7 +12,7 @@ from types import TracebackType
 from typing import Any, Callable, Dict, Optional, Set, Type
 
 from . import _client as raw
-from ._arguments import flags_word, name_bytes, part, seconds, word
+from ._arguments import flags_word, name_bytes, need_routines, part, seconds, word
 from ._asks import GRANTS, milliseconds
 from ._library import ROUTINE, address_of
 from .errors import BadParamError, DepartedError, LostError, NonExprError, VlmError, checked
@@ -100,6 +100,7 @@ class Connection:
         shows a certificate. These files in PEM's form are those of VLM_TLS_CERTIFICATE, VLM_TLS_KEY and
         VLM_TLS_AUTHORITY if they are not named. `deliver` calls `on_lost` once the locks are lost. LostError says why
         there is no connection."""
+        need_routines(on_lost)
         self._routines: Dict[int, Routine] = {}
         self._numbers = count(1)
         self._on_lost = on_lost
@@ -252,6 +253,7 @@ class ServedProcess:
         """Asks for a lock without waiting, and returns it. `Connection.deliver` calls the routine once the request has
         ended."""
         text = name_bytes(name)
+        need_routines(completion)
         request = self.request(mode, flags | Flags.VALBLK, None)
 
         def completed(event: ServedEvent) -> None:
@@ -306,6 +308,7 @@ class _Request:
 
     def __init__(self, process: ServedProcess, mode: Mode, flags: int, timeout: Optional[float], lock: int,
                  blocking: Optional[Routine], value: bytes) -> None:
+        need_routines(blocking)
         self.value = raw.room_of(value)
         self.words = raw.Request(pid=process.pid, mode=word(mode, "mode"),
                                  flags=flags_word(flags), lock=word(lock, "the lock"),
