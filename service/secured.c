@@ -56,12 +56,12 @@ static const char *missing(const struct config *config) {
                                            : NULL;
 }
 
-/* Reads the keys, or says why not. */
+/* Reads the keys, or says why not. Says if clients will refuse the certificate because of its dates. */
 static vlm_tls_keys *read_keys(const struct config *config) {
     const struct vlm_tls_files files = {config->tls_certificate, config->tls_key, config->tls_authority};
     char reason[VLM_TLS_REASON] = "", text[TEXT];
     vlm_tls_keys *keys = tls->read_keys(&files, reason);
-    if (keys == NULL) {
+    if (reason[0] != 0) {
         snprintf(text, sizeof text, "tls: %s", reason);
         write_log(text);
     }

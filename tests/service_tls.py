@@ -415,6 +415,13 @@ def reread(_program):
         daemon.rights.write_text(RIGHTS + "mallory uid=7 group=7\n")
         yield from difference((daemon.read_again(), shown(daemon)), (True, "second"))
         yield from difference(vlm(daemon, "mallory", "lock", "A", "true"), (0, ""))
+        for kind in ("pem", "key"):
+            shutil.copy(KEYS() / f"late.{kind}", f"{daemon.folder}/own.{kind}")
+        yield from difference((daemon.read_again(), daemon.has_told("own.pem: the certificate has expired")),
+                              (True, True))
+        for kind in ("pem", "key"):
+            shutil.copy(KEYS() / f"second.{kind}", f"{daemon.folder}/own.{kind}")
+        yield from difference(daemon.read_again(), True)
         for file, text, told in (("rights", "alice uid=1 group=1\nbob uid=x group=1", "rights line 2: it is not NAME"),
                                  ("own.pem", "no certificate\n", "own.pem: no start line"),
                                  ("own.key", (KEYS() / "alice.key").read_text(), "own.key: key values mismatch")):

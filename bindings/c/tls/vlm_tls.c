@@ -84,6 +84,15 @@ static void free_keys(vlm_tls_keys *keys) {
     free(keys);
 }
 
+/* Says that the other side will refuse the certificate, if that has run out or is not valid yet. */
+static void check_dates(SSL_CTX *context, const char *file, char *reason) {
+    const X509 *shown = SSL_CTX_get0_certificate(context);
+    bool is_early = X509_cmp_current_time(X509_get0_notBefore(shown)) > 0;
+    bool is_late = X509_cmp_current_time(X509_get0_notAfter(shown)) < 0;
+    if (is_early || is_late)
+        snprintf(reason, VLM_TLS_REASON, "%s: the certificate %s", file, is_late ? "has expired" : "is not yet valid");
+}
+
 /* Threads may still run when the program ends, so OpenSSL is told before all else to free nothing of its own then. */
 static vlm_tls_keys *read_keys(const struct vlm_tls_files *files, char *reason) {
     OPENSSL_init_crypto(OPENSSL_INIT_NO_ATEXIT, NULL);
@@ -92,8 +101,10 @@ static vlm_tls_keys *read_keys(const struct vlm_tls_files *files, char *reason) 
     if (keys != NULL)
         keys->context = new_context();
     const char *wrong = keys == NULL || keys->context == NULL ? "OpenSSL" : read_files(keys->context, files);
-    if (wrong == NULL)
+    if (wrong == NULL) {
+        check_dates(keys->context, files->certificate, reason);
         return keys;
+    }
     snprintf(reason, VLM_TLS_REASON, "%s: %s", wrong, text_of(ERR_peek_error()));
     ERR_clear_error();
     free_keys(keys);

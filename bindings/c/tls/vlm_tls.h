@@ -31,7 +31,8 @@ typedef struct vlm_tls_keys vlm_tls_keys;
 typedef struct vlm_tls vlm_tls;
 
 struct vlm_tls_calls {
-    /* Reads files. Null, and VLM_TLS_REASON bytes at `reason` say why not. A key under a passphrase is refused. */
+    /* Reads files. Null, and VLM_TLS_REASON bytes at `reason` say why not. A key under a passphrase is refused. With
+     * keys `reason` is changed only if the other side will refuse the certificate because of its dates. */
     vlm_tls_keys *(*read_keys)(const struct vlm_tls_files *files, char *reason);
     void (*free_keys)(vlm_tls_keys *keys);
 
