@@ -360,6 +360,27 @@ def is_served(machine):
     yield from difference(machine.run("vlm lock backup echo mine", "stranger").returncode, 69)
 
 
+# A start fails as long as something else has the name of the state file. A wrong configuration is for a person to mend.
+AGAIN = """systemctl stop vlmd 2>/dev/null
+mv /var/lib/vlmd/state /tmp && mkdir /var/lib/vlmd/state
+vlm lock backup echo mine &
+until [ "$(systemctl show --property NRestarts --value vlmd)" -ge 6 ]; do sleep 0.1; done
+rmdir /var/lib/vlmd/state && mv /tmp/state /var/lib/vlmd
+wait
+echo frob >/etc/vlmd.conf
+systemctl restart vlmd 2>/dev/null || systemctl show --property ExecMainStatus --property NRestarts vlmd
+vlm who 2>/dev/null || echo $?
+: >/etc/vlmd.conf
+systemctl restart vlmd
+vlm lock backup echo mine
+"""
+
+
+def is_started_again(machine):
+    """A daemon that can't start is started until it can. With a wrong configuration it is not."""
+    yield from difference(machine.run(AGAIN).stdout, "mine\nNRestarts=0\nExecMainStatus=2\n69\nmine\n")
+
+
 # Starts Debian's etcd. The root shares the network of this machine, so etcd gets ports of its own.
 ETCD = """systemctl mask etcd.service
 apt-get install etcd-server python3-etcd3 && systemd-run --unit=list etcd --data-dir /tmp/list --name m1 \\
@@ -413,7 +434,7 @@ def with_systemd(program):
     with root_with_packages("a-machine", program) as root:
         root.need("apt-get install systemd-sysv dbus libuv1 libssl3")
         with Machine(root.folder) as machine:
-            for step in (is_served, is_replicated, is_kept):
+            for step in (is_served, is_started_again, is_replicated, is_kept):
                 yield from (f"{step.__name__}: {it}" for it in step(machine))
 
 
