@@ -204,10 +204,11 @@ static bool name_state(const char *socket, char name[LONGEST_PATH]) {
 
 bool keep_state(const char *socket, uint32_t epoch, int *descriptor) {
     char name[LONGEST_PATH];
-    struct stat ours;
-    if (fstat(*descriptor, &ours) != 0 || ours.st_nlink != 0)
-        return true;
+    struct stat ours, there;
     name_state(socket, name);
+    if (fstat(*descriptor, &ours) != 0
+        || (lstat(name, &there) == 0 && there.st_dev == ours.st_dev && there.st_ino == ours.st_ino))
+        return true;
     int made = open(name, O_RDWR | O_CREAT | O_NOFOLLOW | O_CLOEXEC, 0600);
     if (made < 0)
         return true;

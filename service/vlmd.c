@@ -12,6 +12,7 @@
 #include <string.h>
 #include <sys/random.h>
 #include <sys/resource.h>
+#include <sys/stat.h>
 #include <unistd.h>
 
 enum { KEYS = 16, NAMED = 256, FEWEST_FILES = 32 };
@@ -133,13 +134,21 @@ static void read_tls_again(const struct config *read) {
         write_log("TLS begins at the next start");
 }
 
-/* Reads the configuration again. The socket stays, and whether this is a replica. */
+/* Whether the configuration is a pipe, such as that of `-c <(COMMAND)`. It might never end. */
+static bool is_pipe(void) {
+    struct stat there;
+    return stat(vlmd.file, &there) == 0 && S_ISFIFO(there.st_mode);
+}
+
+/* Reads the configuration again. The path of the socket stays, and whether this is a replica. */
 static void on_hangup(uv_signal_t *handle, int number) {
     (void)handle, (void)number;
     const struct config *old = &vlmd.config;
     struct config read = usual_config;
-    read.mode = old->mode;
-    read.grace = old->grace;
+    if (is_pipe()) {
+        write_log("a configuration that is a pipe is not read again");
+        return;
+    }
     if (!read_config(vlmd.file, vlmd.is_file_named, &read))
         return;
     read_tls_again(&read);
@@ -147,6 +156,8 @@ static void on_hangup(uv_signal_t *handle, int number) {
     memcpy(read.etcd, old->etcd, sizeof read.etcd);
     memcpy(read.prefix, old->prefix, sizeof read.prefix);
     memcpy(read.listen, old->listen, sizeof read.listen);
+    if (loop.is_own_listener && read.mode != old->mode && chmod(old->socket, read.mode) != 0)
+        write_log("the mode of the socket can't be changed");
     vlmd.config = read;
     if (vlmd.replica != NULL)
         replica_limit(vlmd.replica, &vlmd.config.limits);

@@ -9,6 +9,7 @@ import resource
 import shutil
 import signal
 import socket
+import stat
 import subprocess
 import sys
 import tempfile
@@ -551,6 +552,21 @@ def configured(_program):
             yield from difference((setting, answer), (setting, "P: EXENQLM"))
 
 
+def configured_again(_program):
+    """SIGHUP changes the mode of the socket too, and a configuration that is a pipe does not stop the daemon."""
+    with Daemon("mode 666") as daemon, daemon.client() as client:
+        for text, mode in (("mode 600\n", 0o600), ("", 0o660)):
+            daemon.config.write_text(text)
+            daemon.run.send_signal(signal.SIGHUP)
+            service_replicas.until(lambda wanted=mode: stat.S_IMODE(os.stat(daemon.socket).st_mode) == wanted)
+            yield from difference(stat.S_IMODE(os.stat(daemon.socket).st_mode), mode)
+        daemon.config.unlink()
+        os.mkfifo(daemon.config)
+        daemon.run.send_signal(signal.SIGHUP)
+        time.sleep(0.2)
+        yield from difference(client.ask("alive"), "no session")
+
+
 def linked(_program):
     """A daemon writes to no file that a link in the place of its state file leads to: another user may have made it."""
     folder = Path(tempfile.mkdtemp(dir=ROOM().name))
@@ -610,13 +626,14 @@ def long_log(_program):
 
 
 def removed_state(_program):
-    """A state file that is removed comes again, so no other daemon begins beside this one. If one has begun by then,
-    this one ends, and leaves it its socket."""
+    """A state file that is moved or removed comes again, so no other daemon begins beside this one. If one has begun by
+    then, this one ends, and leaves it its socket."""
     folder = Path(tempfile.mkdtemp(dir=ROOM().name))
     with Daemon(made=PLAIN, folder=folder) as daemon, daemon.client() as client:
         state = folder / "socket.state"
-        state.unlink()
-        yield from difference(service_replicas.until(state.exists), True)
+        for is_moved in (True, False):
+            state.rename(folder / "moved") if is_moved else state.unlink()
+            yield from difference(service_replicas.until(state.exists), True)
         words = [PLAIN(), "-c", "/dev/null", "-s", daemon.socket]
         ended = subprocess.run(words, capture_output=True, text=True, timeout=20)
         yield from difference((ended.returncode, "belongs to another daemon" in ended.stderr), (4, True))
@@ -887,7 +904,7 @@ BEHAVIOURS = {"a daemon without a log": without_log,
               "what show and who print": shown, "readings of single locks": readings,
               "sessions that are resumed": resumed, "repeated steps": repeated, "processes of another session": hidden,
               "a daemon that ends": restarted, "a second daemon": one_daemon, "what is in the way": in_the_way,
-              "configurations": configured,
+              "configurations": configured, "a configuration that is read again": configured_again,
               "a daemon of systemd": under_systemd, "a deadlock": deadlocked, "no searches": not_searched,
               "a daemon that stays awake": awake,
               "a change of managers": changed, "no identifications left": drained, "10,000 idle connections": idle,
