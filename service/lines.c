@@ -104,7 +104,8 @@ enum line_kind dispatcher_kind(const char *line, size_t len) {
 
 /* A `declare` line of a client as a script has it: without its words for quota and blocks the usual ones, on some node,
  * and with the rights of the connection. */
-static bool as_declaration(const struct client *client, const struct word *words, size_t count, vlm_line *line) {
+static const vlm_line *as_declaration(const struct client *client, const struct word *words, size_t count) {
+    vlm_line *refused = &client->dispatcher->unknown;
     char text[LINE];
     int len = 0;
     bool has_quota = false, has_blocks = false, is_refused = count > DECLARE_WORDS;
@@ -118,16 +119,16 @@ static bool as_declaration(const struct client *client, const struct word *words
         len += snprintf(text + len, sizeof text - (size_t)len, "%.*s ", shown, words[at].bytes);
     }
     if (is_refused || memchr(client->line, 0, client->line_len) != NULL) {
-        line->kind = VLM_LINE_EMPTY;
-        line->fault = VLM_FAULT_WRONG_WORD;
-        return true;
+        refused->kind = VLM_LINE_EMPTY;
+        refused->fault = VLM_FAULT_WRONG_WORD;
+        return refused;
     }
     len += snprintf(text + len, sizeof text - (size_t)len, "node=1 group=%" PRIu32, client->rights.group);
     if (!has_quota)
         len += snprintf(text + len, sizeof text - (size_t)len, " quota=%d", USUAL_QUOTA);
     if (!has_blocks)
         len += snprintf(text + len, sizeof text - (size_t)len, " blocks=%d", USUAL_BLOCKS);
-    return vlm_read_line((const uint8_t *)text, (size_t)len, line) == VLM_NORMAL;
+    return read_line(client->dispatcher, (struct word){text, (size_t)len});
 }
 
 /* The ID that a handle names to the lock manager: another epoch's is no lock of anybody. */
@@ -150,27 +151,33 @@ static bool find_handle(struct word command, struct word rest, struct word *hand
     return is_word(command, "cvt") || is_word(command, "deq");
 }
 
-/* Reads the client's line, in which a lock may be named by its handle. */
-static bool read_with_handle(const struct client *client, struct word command, struct word rest) {
+/* Reads the client's line, in which a lock may be named by its handle. Right lines without one are kept. */
+static const vlm_line *read_with_handle(const struct client *client, struct word command, struct word rest) {
     struct dispatcher *dispatcher = client->dispatcher;
     struct word whole = {client->line, client->line_len}, handle;
     uint64_t number;
-    if (!find_handle(command, rest, &handle) || !decimal(handle, UINT64_MAX, &number))
-        return vlm_read_line((const uint8_t *)whole.bytes, whole.len, &dispatcher->line) == VLM_NORMAL;
-    char text[LINE + 24];
+    if (!find_handle(command, rest, &handle) || !decimal(handle, UINT64_MAX, &number)) {
+        const vlm_line *line = read_line(dispatcher, whole);
+        if (line != NULL && line->fault == 0)
+            keep_line(client, whole, line);
+        return line;
+    }
+    char text[LINE + NUMBER_DIGITS], digits[NUMBER_DIGITS];
+    size_t count = write_number(digits + NUMBER_DIGITS, lkid_of(dispatcher, number));
     size_t before = (size_t)(handle.bytes - whole.bytes), after = whole.len - before - handle.len;
     memcpy(text, whole.bytes, before);
-    int digits = snprintf(text + before, 16, "%" PRIu32, lkid_of(dispatcher, number));
-    memcpy(text + before + digits, handle.bytes + handle.len, after);
-    size_t len = before + (size_t)digits + after;
+    memcpy(text + before, digits + NUMBER_DIGITS - count, count);
+    memcpy(text + before + count, handle.bytes + handle.len, after);
+    size_t len = before + count + after;
     /* (a short handle of another epoch has fewer digits than the ID that stands for it) */
-    return vlm_read_line((const uint8_t *)text, len <= LINE ? len : LINE, &dispatcher->line) == VLM_NORMAL;
+    return read_line(dispatcher, (struct word){text, len <= LINE ? len : LINE});
 }
 
 static const char *const faults[] = {
     "", "too long\n", "unknown command\n", "wrong word\n", "number out of range\n", "unknown name\n", "name used\n"};
 
 static void run_read_line(struct client *client, const vlm_line *line) {
+    client->dispatcher->line = line;
     bool is_reading = line->kind == VLM_LINE_BLOCK || line->kind == VLM_LINE_TAIL;
     if (line->kind == VLM_LINE_EMPTY)
         return;
@@ -203,27 +210,42 @@ static void run_read_line(struct client *client, const vlm_line *line) {
 }
 
 /* Whether a line has to wait: requests do while the dispatcher is quiet. */
-static bool has_to_wait(struct client *client, struct word command) {
-    client->is_waiting = client->dispatcher->quiet_until != 0 && is_word(command, "enq");
+static bool has_to_wait(struct client *client, bool is_request) {
+    client->is_waiting = client->dispatcher->quiet_until != 0 && is_request;
     return client->is_waiting;
 }
 
 /* Whether a line is surely none of a session, and no declaration: most lines are such steps. */
 static bool is_frequent(struct word word) { return word.len == STEP_LETTERS && word.bytes[0] != 'w'; }
 
-/* Runs the client's line if it is one of a session. Else reads it, and says whether it could. */
-static bool run_or_read(struct client *client, struct word command, struct word rest, bool *is_read) {
+/* Runs the client's line if it is one of a session. Else reads it, if it can be read. */
+static bool run_or_read(struct client *client, struct word command, struct word rest, const vlm_line **line) {
     struct word words[MOST_WORDS];
     if (is_frequent(command)) {
-        *is_read = read_with_handle(client, command, rest);
+        *line = read_with_handle(client, command, rest);
         return false;
     }
     size_t count = split(client->line, client->line_len, words, MOST_WORDS);
     if (run_session_line(client, words, count))
         return true;
-    *is_read = is_word(command, "declare") ? as_declaration(client, words, count, &client->dispatcher->line)
-                                           : read_with_handle(client, command, rest);
+    *line =
+        is_word(command, "declare") ? as_declaration(client, words, count) : read_with_handle(client, command, rest);
     return false;
+}
+
+/* Runs a line that is not known. Returns false, and has done nothing, if the line has to wait. */
+static bool run_unknown(struct client *client) {
+    struct word rest = {client->line, client->line_len}, command = next_word(&rest);
+    const vlm_line *line;
+    if (has_to_wait(client, is_word(command, "enq")))
+        return false;
+    if (command.len == 0 || run_or_read(client, command, rest, &line))
+        return true;
+    if (line == NULL || line->fault != 0)
+        answer_text(client, faults[line != NULL ? line->fault : VLM_FAULT_WRONG_WORD]);
+    else
+        run_read_line(client, line);
+    return true;
 }
 
 /* Runs a line without its line feed. Returns false, and has done nothing, if the line has to wait. */
@@ -235,16 +257,11 @@ bool run_line(struct client *client, const char *bytes, size_t len) {
     }
     client->line = bytes;
     client->line_len = len;
-    struct word rest = {bytes, len}, command = next_word(&rest);
-    bool is_read;
-    if (has_to_wait(client, command))
+    const vlm_line *line = known_line(client, (struct word){bytes, len});
+    if (line == NULL)
+        return run_unknown(client);
+    if (has_to_wait(client, line->kind == VLM_LINE_ENQ))
         return false;
-    if (command.len == 0 || run_or_read(client, command, rest, &is_read))
-        return true;
-    const vlm_line *line = &client->dispatcher->line;
-    if (!is_read || line->fault != 0)
-        answer_text(client, faults[is_read ? line->fault : VLM_FAULT_WRONG_WORD]);
-    else
-        run_read_line(client, line);
+    run_read_line(client, line);
     return true;
 }

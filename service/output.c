@@ -7,7 +7,7 @@
 #include <stdlib.h>
 #include <string.h>
 
-enum { LONGEST_TEXT = 512, DIGITS = 20 };
+enum { LONGEST_TEXT = 512 };
 
 void say(const struct dispatcher *dispatcher, const char *format, ...) {
     char text[LONGEST_TEXT];
@@ -83,8 +83,8 @@ void put_format(struct client *client, const char *format, ...) {
     put(client, text, len < (int)sizeof text ? (size_t)len : sizeof text - 1);
 }
 
-/* Writes a number in decimal digits before `end`, and returns how many there are. Each answer has such numbers. */
-static size_t write_number(char *end, uint64_t number) {
+/* Writes a number in decimal digits before `end`, and returns how many there are. Most lines and answers have some. */
+size_t write_number(char *end, uint64_t number) {
     size_t count = 0;
     do {
         end[-1 - (ptrdiff_t)count++] = (char)('0' + number % 10);
@@ -95,14 +95,14 @@ static size_t write_number(char *end, uint64_t number) {
 
 /* An answer begins with the number of its line. */
 void begin_answer(struct client *client) {
-    char text[DIGITS + 1];
+    char text[NUMBER_DIGITS + 1];
     if (!client->has_number || client->is_detached) {
         note_change(client);
         return;
     }
-    size_t count = write_number(text + DIGITS, client->line_number);
-    text[DIGITS] = ' ';
-    put(client, text + DIGITS - count, count + 1);
+    size_t count = write_number(text + NUMBER_DIGITS, client->line_number);
+    text[NUMBER_DIGITS] = ' ';
+    put(client, text + NUMBER_DIGITS - count, count + 1);
 }
 
 /* An answer with a line for each lock may be longer than what a client that does not read may leave unsent. */
@@ -126,7 +126,7 @@ void answer_text(struct client *client, const char *text) { answer(client, text,
 
 /* Puts a number in the place of a word of a printed line, counted from 0. */
 void replace_word(vlm_text *text, uint32_t place, uint64_t number) {
-    char *from = (char *)text->bytes, *end = from + text->len, digits[DIGITS];
+    char *from = (char *)text->bytes, *end = from + text->len, digits[NUMBER_DIGITS];
     while (from < end && *from == ' ')
         from++;
     for (; place > 0 && from < end; place--) {
@@ -136,11 +136,11 @@ void replace_word(vlm_text *text, uint32_t place, uint64_t number) {
     char *to = from;
     while (to < end && *to != ' ' && *to != '\n')
         to++;
-    size_t count = write_number(digits + DIGITS, number), len = text->len - (size_t)(to - from) + count;
+    size_t count = write_number(digits + NUMBER_DIGITS, number), len = text->len - (size_t)(to - from) + count;
     if (len > sizeof text->bytes)
         return;
     memmove(from + count, to, (size_t)(end - to));
-    memcpy(from, digits + DIGITS - count, count);
+    memcpy(from, digits + NUMBER_DIGITS - count, count);
     text->len = (uint32_t)len;
 }
 

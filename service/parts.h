@@ -7,6 +7,7 @@
  * dispatcher.c  opening and closing, ticks, turns, and clients
  * input.c       bytes of a client become lines
  * lines.c       what a line asks for: its number, its words, and the handles of locks in it
+ * known_lines.c lines that were read lately
  * repeats.c     numbered lines that come again
  * sessions.c    open, resume, close, alive and kill
  * steps.c       declare, enq, cvt, deq, set and end
@@ -44,7 +45,10 @@ enum {
     NODE_PROCESSES = 65535,
     MOST_PROCESSES = VLM_MAX_NODES * NODE_PROCESSES,
     KEPT_ROOM = 256, /* of a client's output between two answers */
-    PAIR = 512       /* bytes of an AST and its block line */
+    NUMBER_DIGITS = 20,
+    PAIR = 512, /* bytes of an AST and its block line */
+    KNOWN_LINES = 1024,
+    KNOWN_BYTES = 120 /* of a known line at most */
 };
 
 #define NOBODY UINT32_MAX  /* no record */
@@ -187,6 +191,13 @@ struct token {
     uint64_t number;
 };
 
+/* A line that a client of a group has sent, and what was read of it. A place without a line has no bytes. */
+struct known_line {
+    uint32_t len, group;
+    char bytes[KNOWN_BYTES];
+    vlm_line line;
+};
+
 struct counts {
     uint64_t steps, asts, searches, victims, cut_off, refused, sessions, changes, lost;
 };
@@ -222,11 +233,13 @@ struct dispatcher {
     uint64_t token;       /* the last one that was taken */
     struct token *tokens; /* hashed by their locks */
     size_t token_room, token_count;
-    vlm_line line;      /* the line that is run */
-    vlm_text text;      /* the answer to it */
-    vlm_line shown;     /* names a process whose AST or block is printed */
-    struct step *spare; /* by which the step of a numbered line is surely kept, or null */
+    const vlm_line *line; /* the line that is run */
+    vlm_text text;        /* the answer to it */
+    vlm_line unknown;     /* a line that was not known */
+    vlm_line shown;       /* names a process whose AST or block is printed */
+    struct step *spare;   /* by which the step of a numbered line is surely kept, or null */
     struct counts counts;
+    struct known_line known[KNOWN_LINES];
 };
 
 /* A word of a line. */
@@ -249,6 +262,12 @@ size_t split(const char *bytes, size_t len, struct word *words, size_t most);
 bool is_word(struct word word, const char *text);
 bool keyed(struct word word, const char *key, struct word *rest);
 bool decimal(struct word word, uint64_t most, uint64_t *number);
+
+/* known_lines.c: what a line is that was read before, or null; reads a line, null if that has too many bytes; keeps what
+ * was read of a client's line without its number */
+const vlm_line *known_line(const struct client *client, struct word text);
+const vlm_line *read_line(struct dispatcher *dispatcher, struct word text);
+void keep_line(const struct client *client, struct word text, const vlm_line *line);
 
 /* repeats.c */
 bool is_repeated(struct client *client);
@@ -331,6 +350,7 @@ void answer_text(struct client *client, const char *text);
 void begin_answer(struct client *client);
 void begin_long_answer(struct client *client);
 void end_long_answer(struct client *client, const char *text);
+size_t write_number(char *end, uint64_t number);
 void replace_word(vlm_text *text, uint32_t place, uint64_t number);
 void say(const struct dispatcher *dispatcher, const char *format, ...) __attribute__((format(printf, 2, 3)));
 

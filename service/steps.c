@@ -17,7 +17,7 @@ struct binding *find_binding(struct session *session, const uint8_t *name) {
 /* Prints and sends the answer to the step of the line that is run. It names the handle of a lock, the number of a
  * process, or nothing: 0. Those of more than 32 bits are none of the script's. */
 void tell_answer(struct client *client, uint32_t status, uint64_t given) {
-    const vlm_line *line = &client->dispatcher->line;
+    const vlm_line *line = client->dispatcher->line;
     vlm_text *text = &client->dispatcher->text;
     bool is_long = given > UINT32_MAX;
     if (client->is_detached)

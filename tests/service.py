@@ -357,6 +357,18 @@ def other_users(_program):
         yield from difference(daemon.client(NOBODY).greeting, "no group")
 
 
+def repeated_lines(_program):
+    """A line means the same each time that it comes, whatever lines came between. More lines come here than the daemon
+    knows at a time, and some are longer than those that it knows."""
+    with Daemon() as daemon, daemon.client().begin("P") as client:
+        for _ in range(2):
+            for number in random.sample(range(2000), 2000):
+                blanks = (number % 10 == 0) * 100 * " "
+                client.send(f"enq P EX name=N{number} {blanks} block=1", "show", "deq P @1")
+                found = [client.line() for _ in range(5)]
+                yield from difference((found[1].split()[7:8], found[4]), ([f"N{number}"], "P: NORMAL"))
+
+
 def resumed(_program):
     """A session with seconds goes on after its connection, hears the ASTs that it missed, and ends in time."""
     with Daemon() as daemon, daemon.client() as client, daemon.client().begin("Q") as other:
@@ -900,7 +912,8 @@ def clients(compiler, sanitizer, _program):
 BEHAVIOURS = {"a daemon without a log": without_log,
               "the first session of the page": shown_talk, "half lines": half_lines, "killed clients": killed,
               "a client that reads no answers": deaf, "a client that reads no ASTs": cut_off,
-              "many long answers": long_answers, "many lines of one client": fair, "limits of a user": limits,
+              "many long answers": long_answers, "many lines of one client": fair,
+              "lines that come again": repeated_lines, "limits of a user": limits,
               "what show and who print": shown, "readings of single locks": readings,
               "sessions that are resumed": resumed, "repeated steps": repeated, "processes of another session": hidden,
               "a daemon that ends": restarted, "a second daemon": one_daemon, "what is in the way": in_the_way,
