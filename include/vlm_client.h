@@ -24,7 +24,8 @@
  *   does not tell the wanted mode: it is VLM_NO_MODE.
  * - A limit of the service is answered EXENQLM, and a want of IDs NOLOCKID.
  * - The service searches for deadlocks. There are no calls to search, to look, to count, or for nodes.
- * - A call of a forked child answers VLM_BADPARAM: the connection is its parent's.
+ * - A call of a forked child answers VLM_BADPARAM: the connection is its parent's. The child closes its copy, by
+ *   pthread_atfork, so the locks end with the parent.
  * - With addresses of TCP a connection that fails is replaced, at the next address, and no call notices it. At most 64
  *   lines are under way; other calls wait. The locks are lost once no address was heard for the time of the lease.
  *

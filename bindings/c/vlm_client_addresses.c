@@ -117,8 +117,8 @@ static void set_options(int descriptor) {
 bool vlmc_connect_to(const vlm_client *client, struct channel *channel, uint64_t until) {
     const struct address *address = &client->addresses[client->address];
     const struct sockaddr *name = (const struct sockaddr *)&address->name;
-    int kind = SOCK_STREAM | SOCK_CLOEXEC | (client->lease != 0 ? SOCK_NONBLOCK : 0), done;
-    int descriptor = socket(name->sa_family, kind, 0);
+    int kind = SOCK_STREAM | (client->lease != 0 ? SOCK_NONBLOCK : 0), done;
+    int descriptor = vlmc_open_socket(name->sa_family, kind);
     *channel = (struct channel){descriptor, NULL};
     if (descriptor < 0)
         return false;

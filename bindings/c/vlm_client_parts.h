@@ -9,6 +9,7 @@
  *
  * vlm_client.c            opening, closing, processes
  * vlm_client_addresses.c  where the service is, and connecting
+ * vlm_client_sockets.c    sockets, and forked children
  * vlm_client_tls.c        connections that may have TLS
  * vlm_client_sessions.c   the first lines of a connection, which open a session or resume it
  * vlm_client_resume.c     lines that are kept, and another connection of a session
@@ -199,6 +200,9 @@ bool vlmc_is_usable(const vlm_client *client);
 bool vlmc_find_addresses(vlm_client *client);
 bool vlmc_connect_to(const vlm_client *client, struct channel *channel, uint64_t until);
 bool vlmc_wait_for(const vlm_client *client, int descriptor, short events, uint64_t until);
+
+/* vlm_client_sockets.c. vlmc_open_socket makes a socket that forked children close, or answers -1. */
+int vlmc_open_socket(int family, int kind);
 
 /* vlm_client_sessions.c: none takes a mutex held. vlmc_connect begins a session: VLM_NORMAL or VLM_LOST. vlmc_go_on
  * resumes it at the address whose turn it is. vlmc_is_end tells whether a line says that the session is over, and

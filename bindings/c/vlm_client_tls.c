@@ -185,7 +185,7 @@ void vlmc_channel_close(struct channel *channel) {
     if (channel->tls != NULL)
         calls()->close(channel->tls);
     if (channel->descriptor >= 0)
-        close(channel->descriptor);
+        vlmc_close_socket(channel->descriptor);
     *channel = (struct channel){-1, NULL};
 }
 

@@ -54,4 +54,7 @@ void vlmc_channel_close(struct channel *channel);
 bool vlmc_poll(int descriptor, int wake, short events, uint64_t until);
 uint64_t vlmc_now(void);
 
+/* vlm_client_sockets.c. Closes a socket, also one that vlmc_open_socket did not make. */
+void vlmc_close_socket(int descriptor);
+
 #endif

@@ -321,6 +321,35 @@ static void test_fork(void) {
     vlm_client_close(client);
 }
 
+/* A program that forks a child under a lock, and is killed. The child lives until the pipe ends. */
+static void leave_heir(const int *ends) {
+    vlm_client *client = opened((vlm_client_options){.delivery = VLM_THREADS_BY_PROGRAM});
+    vlm_threads_request request = wanted(declared(client), VLM_EX, 0);
+    char byte;
+    CHECK(enq(client, &request, "heir") == VLM_NORMAL);
+    close(ends[1]);
+    if (fork() == 0)
+        _exit((int)read(ends[0], &byte, 1));
+    kill(getpid(), SIGKILL);
+}
+
+/* A child that lives on keeps no lock of a parent that has ended. */
+static void test_heir(void) {
+    int ends[2];
+    CHECK(pipe(ends) == 0);
+    pid_t parent = fork();
+    if (parent == 0)
+        leave_heir(ends);
+    CHECK(waitpid(parent, NULL, 0) == parent);
+    vlm_client *client = opened((vlm_client_options){.delivery = VLM_THREADS_BY_PROGRAM});
+    vlm_threads_request request = wanted(declared(client), VLM_EX, 0);
+    request.milliseconds = WAIT;
+    CHECK(enq(client, &request, "heir") == VLM_NORMAL);
+    vlm_client_close(client);
+    close(ends[0]);
+    close(ends[1]);
+}
+
 static void reopen(vlm_client *client) {
     int tries = 0;
     start_daemon();
@@ -927,6 +956,7 @@ int main(int count, char **words) {
     test_ends();
     test_race();
     test_fork();
+    test_heir();
     test_loss();
     test_unsent();
     test_reopen();

@@ -1,0 +1,68 @@
+/* The sockets of clients. A forked child has a copy of each, and at a socket of Unix a session lasts until the last
+ * copy is closed: a child that lives on would keep the locks of a parent that has ended. So it closes its copies. */
+#include "vlm_client_parts.h"
+
+#include <stdlib.h>
+#include <string.h>
+#include <sys/socket.h>
+#include <unistd.h>
+
+enum { MORE = 64 };
+
+static struct {
+    pthread_mutex_t mutex;
+    bool is_watching; /* forks */
+    bool *are_open;   /* by descriptors: whether it is a socket of a client */
+    int room;
+} sockets = {.mutex = PTHREAD_MUTEX_INITIALIZER};
+
+static void before_fork(void) { pthread_mutex_lock(&sockets.mutex); }
+
+static void after_fork(void) { pthread_mutex_unlock(&sockets.mutex); }
+
+static void begin_child(void) {
+    for (int descriptor = 0; descriptor < sockets.room; descriptor++) {
+        if (sockets.are_open[descriptor])
+            close(descriptor);
+        sockets.are_open[descriptor] = false;
+    }
+    pthread_mutex_unlock(&sockets.mutex);
+}
+
+/* Notes a socket. Without memory it is closed. */
+static int note(int descriptor) {
+    if (descriptor >= sockets.room) {
+        int room = descriptor + MORE;
+        bool *are_open = realloc(sockets.are_open, (size_t)room * sizeof *are_open);
+        if (are_open == NULL) {
+            close(descriptor);
+            return -1;
+        }
+        memset(are_open + sockets.room, 0, (size_t)(room - sockets.room) * sizeof *are_open);
+        sockets.are_open = are_open;
+        sockets.room = room;
+    }
+    sockets.are_open[descriptor] = true;
+    return descriptor;
+}
+
+int vlmc_open_socket(int family, int kind) {
+    int descriptor = -1;
+    pthread_mutex_lock(&sockets.mutex);
+    if (!sockets.is_watching)
+        sockets.is_watching = pthread_atfork(before_fork, after_fork, begin_child) == 0;
+    if (sockets.is_watching)
+        descriptor = socket(family, kind | SOCK_CLOEXEC, 0);
+    if (descriptor >= 0)
+        descriptor = note(descriptor);
+    pthread_mutex_unlock(&sockets.mutex);
+    return descriptor;
+}
+
+void vlmc_close_socket(int descriptor) {
+    pthread_mutex_lock(&sockets.mutex);
+    if (descriptor < sockets.room)
+        sockets.are_open[descriptor] = false;
+    close(descriptor);
+    pthread_mutex_unlock(&sockets.mutex);
+}
