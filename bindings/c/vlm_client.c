@@ -72,10 +72,12 @@ static bool has_queue(vlm_client *client) {
     return client->queue != NULL && (client->lease == 0 || client->kept != NULL);
 }
 
+static int new_counter(void) { return vlmc_clear_of_streams(eventfd(0, EFD_CLOEXEC | EFD_NONBLOCK)); }
+
 static bool has_descriptors(vlm_client *client) {
     bool is_by_program = client->options.delivery == VLM_THREADS_BY_PROGRAM;
-    client->event_descriptor = is_by_program ? eventfd(0, EFD_CLOEXEC | EFD_NONBLOCK) : -1;
-    client->wake_descriptor = client->lease != 0 ? eventfd(0, EFD_CLOEXEC | EFD_NONBLOCK) : -1;
+    client->event_descriptor = is_by_program ? new_counter() : -1;
+    client->wake_descriptor = client->lease != 0 ? new_counter() : -1;
     return (!is_by_program || client->event_descriptor >= 0) && (client->lease == 0 || client->wake_descriptor >= 0);
 }
 

@@ -2,6 +2,7 @@
 #define _GNU_SOURCE
 #include "vlm_client.h"
 
+#include <fcntl.h>
 #include <poll.h>
 #include <pthread.h>
 #include <signal.h>
@@ -348,6 +349,22 @@ static void test_heir(void) {
     vlm_client_close(client);
     close(ends[0]);
     close(ends[1]);
+}
+
+/* In a program without standard streams the client takes none of their numbers: it would get what is printed. */
+static void test_streams(void) {
+    pid_t child = fork();
+    if (child == 0) {
+        bool is_free = true;
+        for (int stream = 0; stream <= STDERR_FILENO; stream++)
+            close(stream);
+        opened((vlm_client_options){.delivery = VLM_THREADS_BY_PROGRAM});
+        for (int stream = 0; stream <= STDERR_FILENO; stream++)
+            is_free &= fcntl(stream, F_GETFD) < 0;
+        _exit(is_free ? 0 : 1);
+    }
+    int status;
+    CHECK(waitpid(child, &status, 0) == child && status == 0);
 }
 
 static void reopen(vlm_client *client) {
@@ -957,6 +974,7 @@ int main(int count, char **words) {
     test_race();
     test_fork();
     test_heir();
+    test_streams();
     test_loss();
     test_unsent();
     test_reopen();
