@@ -99,11 +99,18 @@ static bool is_own(int descriptor) {
            && memcmp(&here, &there, here_len) == 0;
 }
 
+/* Whether the connection is made. Else errno says why not. */
 static bool is_connected(const vlm_client *client, int descriptor, uint64_t until) {
     int wrong = 0;
     socklen_t len = sizeof wrong;
-    return vlmc_wait_for(client, descriptor, POLLOUT, until)
-           && getsockopt(descriptor, SOL_SOCKET, SO_ERROR, &wrong, &len) == 0 && wrong == 0 && !is_own(descriptor);
+    if (!vlmc_wait_for(client, descriptor, POLLOUT, until))
+        wrong = ETIMEDOUT;
+    else if (getsockopt(descriptor, SOL_SOCKET, SO_ERROR, &wrong, &len) != 0)
+        wrong = errno;
+    else if (wrong == 0 && is_own(descriptor))
+        wrong = ECONNREFUSED;
+    errno = wrong;
+    return wrong == 0;
 }
 
 static void set_options(int descriptor) {
@@ -130,6 +137,8 @@ bool vlmc_connect_to(const vlm_client *client, struct channel *channel, uint64_t
         done = 0;
     if (done == 0 && (client->lease == 0 || is_connected(client, descriptor, until)))
         return true;
+    int why = errno;
     vlmc_channel_close(channel);
+    errno = why;
     return false;
 }

@@ -195,8 +195,9 @@ struct vlm_client {
 bool vlmc_is_usable(const vlm_client *client);
 
 /* vlm_client_addresses.c: none takes a mutex held. vlmc_find_addresses tells whether there is an address.
- * vlmc_connect_to makes a connection, without TLS yet, and tells whether it could. vlmc_wait_for waits until a
- * descriptor is ready for events of poll, a moment has come, or the client is to end: whether it is ready. */
+ * vlmc_connect_to makes a connection, without TLS yet, and tells whether it could; errno says why not. vlmc_wait_for
+ * waits until a descriptor is ready for events of poll, a moment has come, or the client is to end: whether it is
+ * ready. */
 bool vlmc_find_addresses(vlm_client *client);
 bool vlmc_connect_to(const vlm_client *client, struct channel *channel, uint64_t until);
 bool vlmc_wait_for(const vlm_client *client, int descriptor, short events, uint64_t until);

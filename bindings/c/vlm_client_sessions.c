@@ -134,10 +134,17 @@ static bool is_secured(vlm_client *client, struct channel *channel, uint64_t unt
     return !vlmc_is_secured(client->path) || (client->keys != NULL && vlmc_shake_hands(channel, &how));
 }
 
+/* errno says why there is no connection. */
+static int unreachable(vlm_client *client) {
+    char why[VLM_TLS_REASON] = "no connection: ", text[VLM_TLS_REASON];
+    strncat(why, strerror_r(errno, text, sizeof text), sizeof why - strlen(why) - 1);
+    return refused(client, NOT_THERE, why);
+}
+
 /* Connects to the address whose turn it is, and begins with a line. */
 static int begin_at(vlm_client *client, const char *first, struct told *told, uint64_t until) {
     if (!vlmc_connect_to(client, &told->channel, until))
-        return refused(client, NOT_THERE, "no connection");
+        return unreachable(client);
     int found = is_secured(client, &told->channel, until) ? begin(client, first, told, until) : NOT_THERE;
     if (found != WENT_ON)
         vlmc_channel_close(&told->channel);

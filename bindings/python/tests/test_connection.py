@@ -291,7 +291,9 @@ class Connections(unittest.TestCase):
             self.assertRaises(BadParamError, connect, f"tcp:{two.address}", lease=lease)
 
     def test_an_opening_in_vain_says_why(self):
-        for address, files, why in (("tcp:127.0.0.1:1", {}, "no connection"), ("tcp:nowhere", {}, "no such address"),
+        for address, files, why in (("tcp:127.0.0.1:1", {}, "no connection: Connection refused"),
+                                    ("/nowhere", {}, "no connection: No such file or directory"),
+                                    ("tcp:nowhere", {}, "no such address"),
                                     ("tls:127.0.0.1:1", {"certificate": "a"}, "no key is named")):
             with self.subTest(address), self.assertRaisesRegex(LostError, why):
                 connect(address, **files)
