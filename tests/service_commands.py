@@ -336,6 +336,9 @@ def told(_program):
             for asked in (name, printed):
                 words = "lock", name, VLM(), "who", asked
                 yield from difference((words, run(daemon, *words)[1].split("\n")[1].split()[:1]), (words, [printed]))
+        for words in (["lock", 32 * "A", "true"], ["lock", "", "true"], ["who", 32 * "A"]):
+            told = run(daemon, *words)[1].splitlines()[0]
+            yield from difference((words, told), (words, "vlm: the name of a lock has 1 to 31 bytes"))
     yield from unprinted()
 
 

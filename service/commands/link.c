@@ -235,8 +235,10 @@ bool write_name(const char *name, char *text) {
     bool is_plain = strncmp(name, "x:", 2) != 0;
     for (size_t at = 0; at < len; at++)
         is_plain &= name[at] > ' ' && name[at] < 127;
-    if (len == 0 || len > MOST_NAME)
+    if (len == 0 || len > MOST_NAME) {
+        fprintf(stderr, "vlm: the name of a lock has 1 to %d bytes\n", MOST_NAME);
         return false;
+    }
     if (is_plain)
         memcpy(text, name, len + 1);
     else

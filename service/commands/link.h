@@ -47,7 +47,8 @@ int end_output(int got);
 /* The time of a clock that never goes back, in milliseconds. */
 int64_t milliseconds(void);
 
-/* Writes the name of a resource as lines have it into NAME_TEXT bytes. Returns false if it is empty or too long. */
+/* Writes the name of a resource as lines have it into NAME_TEXT bytes. Returns false if it is empty or too long, which
+ * it says. */
 bool write_name(const char *name, char *text);
 
 /* The commands. Each returns its exit status. */
