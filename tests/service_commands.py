@@ -353,11 +353,15 @@ def front(_program):
 
 
 def turned_away(_program):
-    """A command says why it is not let in: its user has no group, or nobody greets it."""
+    """A command says why it is not let in: its user has no group, there is no socket, or nobody greets it."""
     with Daemon("group 54321 5") as daemon:
         yield from difference(run(daemon, "who"), (69, f"vlm: {daemon.socket}: no group\n"))
     with tempfile.TemporaryDirectory() as folder, socket.socket(socket.AF_UNIX) as listener:
         listener.bind(f"{folder}/socket")
+        for path, why in ((f"{folder}/none", "No such file or directory: is vlmd running?"),
+                          (f"{folder}/socket", "Connection refused: is vlmd running?"),
+                          (f"{folder}/socket/none", "Not a directory")):
+            yield from difference(run(None, "who", socket=path), (69, f"vlm: {path}: {why}\n"))
         listener.listen()
         for greeting, wanted in ((b"", ": vlmd does not answer: its log may say why"),
                                  (b"vlm protocol 2 epoch 0\n", " speaks another protocol")):

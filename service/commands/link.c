@@ -123,6 +123,13 @@ static int make_socket(int family) {
     return moved;
 }
 
+/* What a user may look at who can't connect. */
+static const char *hint_of(int wrong) {
+    if (wrong == ENOENT || wrong == ECONNREFUSED)
+        return ": is vlmd running?";
+    return wrong == EACCES ? ": the group and the mode of the socket say who may connect" : "";
+}
+
 static bool open_socket(struct link *link, const char *path) {
     struct sockaddr_un address = {.sun_family = AF_UNIX};
     if (strlen(path) >= sizeof address.sun_path) {
@@ -133,7 +140,7 @@ static bool open_socket(struct link *link, const char *path) {
     link->channel = (struct channel){make_socket(AF_UNIX), NULL};
     if (link->channel.descriptor < 0
         || connect(link->channel.descriptor, (const struct sockaddr *)&address, sizeof address) != 0) {
-        fprintf(stderr, "vlm: %s: %s: is vlmd running?\n", path, strerror(errno));
+        fprintf(stderr, "vlm: %s: %s%s\n", path, strerror(errno), hint_of(errno));
         return false;
     }
     char line[LINE_ROOM];
