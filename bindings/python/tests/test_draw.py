@@ -359,6 +359,13 @@ class Command(unittest.TestCase):
         self.assertTrue(ended.stderr.startswith(b"read: "), ended.stderr)
         self.assertEqual(drawn((LONGEST_SCRIPT + 1) * b"\n"), (3, "", "script too long\n"))
 
+    def test_without_the_library(self):
+        for words in ((), ("--dot",), ("--svg", "1")):
+            ended = subprocess.run([*DRAW, *words, "-"], input=TWO, capture_output=True, cwd=HERE.parent,
+                                   env={**os.environ, "VLM_LIBRARY": "/no/such/file"})
+            self.assertEqual((ended.returncode, ended.stdout), (3, b""))
+            self.assertRegex(ended.stderr, rb"^the library /no/such/file .* by VLM_LIBRARY\n$")
+
     @unittest.skipUnless(os.path.exists("/dev/full"), "there is no /dev/full")
     def test_what_cannot_be_written(self):
         with open("/dev/full", "wb") as full:

@@ -15,8 +15,9 @@ class Owner:
     """Owns a handle. Each call takes its mutex."""
 
     def __init__(self, close: str) -> None:
-        handle = raw.Handle()
-        self._own(handle, lambda: getattr(raw.LIBRARY, close)(handle))
+        # (without the library nothing is made, and nothing is to be closed)
+        handle, call = raw.Handle(), getattr(raw.LIBRARY, close)
+        self._own(handle, lambda: call(handle))
 
     def _own(self, handle: raw.Handle, close: Callable[[], object]) -> None:
         self._handle, self._mutex = handle, threading.RLock()

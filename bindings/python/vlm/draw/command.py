@@ -19,7 +19,7 @@ queues, the processes with their status blocks and pending ASTs, and who waits f
 is one file and loads nothing."""
 STATUSES = """The lines of a script are those of `vlm play`. A line with a fault ends the run: the page shows the lines
 before it, standard error gets `line N: TEXT`, and the status is 1. Refused words give status 2. If the script can't be
-read or the page can't be written, the status is 3."""
+read, the page can't be written or the library is not found, the status is 3."""
 FAULT, REFUSED, BROKEN = 1, 2, 3
 
 
@@ -45,6 +45,9 @@ def main(words: Optional[List[str]] = None) -> int:
     except Stopped as stopped:
         _tell(str(stopped))
         return stopped.status
+    except ImportError as failed:  # (of the library)
+        _tell(str(failed))
+        return BROKEN
     return 0
 
 
