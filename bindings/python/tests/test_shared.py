@@ -286,6 +286,19 @@ class Threads(unittest.TestCase):
             os._exit(0)
         self.assertEqual(os.waitpid(child, 0)[1], 0)
 
+    def test_it_is_closed_in_a_forked_child(self):
+        client = Shared().declare()
+        with client.lock("A", Mode.EX):
+            child = os.fork()
+            if not child:
+                try:
+                    client.lock("B", Mode.EX)
+                except ClosedError:
+                    os._exit(0)
+                os._exit(1)
+        self.assertEqual(os.waitpid(child, 0)[1], 0)
+        client.lock("A", Mode.EX).release()
+
     def test_it_is_freed_by_its_own_routine(self):
         ended = threading.Event()
         shared = Shared()

@@ -97,8 +97,23 @@ def _close(layer: c_void_p, hooks: int, owner: int) -> None:
         threading.Thread(target=_close, args=(layer, hooks, owner), daemon=True).start()
 
 
+# Those that were opened.
+_opened: "weakref.WeakSet[Shared]" = weakref.WeakSet()
+
+
+def _leave_to_parent() -> None:
+    """A forked child has no thread of the layers, so its calls would wait for ever, and its locks would keep nobody
+    out."""
+    for shared in list(_opened):
+        shared._is_closed = True
+
+
+os.register_at_fork(after_in_child=_leave_to_parent)
+
+
 class Shared:
-    """A lock manager of its own, which threads share: its calls wait for grants, wake each other and call routines.
+    """A lock manager of its own, which threads share: its calls wait for grants, wake each other and call routines. In
+    a forked child it is closed.
 
     Routines run one at a time, in a thread of the layer, or by `by_program` in one that calls `dispatch`. What they
     raise goes to sys.unraisablehook."""
@@ -127,6 +142,7 @@ class Shared:
         except BaseException:
             forget(hooks)
             raise
+        _opened.add(self)
         # (at the end of the program a thread may still be in a call, so nothing is freed then)
         weakref.finalize(self, _close, self._layer, hooks, self._owner).atexit = False
 
@@ -142,7 +158,8 @@ class Shared:
 
     def _open_layer(self) -> c_void_p:
         if self._is_closed:
-            raise ClosedError
+            is_own = os.getpid() == self._owner
+            raise ClosedError("the lock manager is closed" if is_own else "a forked child can't use its parent's")
         return self._layer
 
     def _call(self, name: str) -> Any:
