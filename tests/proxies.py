@@ -1,6 +1,7 @@
 """Proxies from TCP to the Unix socket of one vlmd, or to a port of it: several of them look like several replicas. A
 proxy may cut its connections, keep bytes back, or refuse connections."""
 
+import contextlib
 import random
 import select
 import socket
@@ -56,7 +57,8 @@ class Proxy:
         """Ends all connections."""
         with self._lock:
             for it in self._connections:
-                it.shutdown(socket.SHUT_RDWR)
+                with contextlib.suppress(OSError):  # (a side that has reset it is gone)
+                    it.shutdown(socket.SHUT_RDWR)
 
     def __enter__(self):
         return self
