@@ -285,6 +285,18 @@ static bool start_replica(void) {
     return vlmd.replica != NULL && list_open(&vlmd.config, on_current);
 }
 
+static const char usage[] = "usage: vlmd [-c FILE] [-s SOCKET] [--etcd MEMBERS [--prefix WORD] [--listen HOST:PORT]]";
+
+/* Prints the usage or the version, and ends. */
+static void print_and_end(bool is_usage) {
+    unsigned version = vlm_version();
+    if (is_usage)
+        puts(usage);
+    else
+        printf("vlmd %u.%u.%u\n", version >> 16, version >> 8 & UINT8_MAX, version & UINT8_MAX);
+    exit(fflush(stdout) == 0 ? 0 : NO_START);
+}
+
 /* Words of the command line that are settings too. */
 struct named_words {
     char *socket, *etcd, *prefix, *listen;
@@ -294,6 +306,8 @@ static bool take_words(int count, char **words, struct named_words *named) {
     static const struct option options[] = {{"etcd", required_argument, NULL, NAMED},
                                             {"prefix", required_argument, NULL, NAMED + 1},
                                             {"listen", required_argument, NULL, NAMED + 2},
+                                            {"help", no_argument, NULL, 'h'},
+                                            {"version", no_argument, NULL, 'v'},
                                             {NULL, 0, NULL, 0}};
     char **const texts[] = {&named->etcd, &named->prefix, &named->listen};
     int option;
@@ -306,6 +320,8 @@ static bool take_words(int count, char **words, struct named_words *named) {
             named->socket = optarg;
         } else if (option >= NAMED) {
             *texts[option - NAMED] = optarg;
+        } else if (option == 'h' || option == 'v') {
+            print_and_end(option == 'h');
         } else {
             return false;
         }
@@ -392,7 +408,7 @@ int main(int count, char **words) {
     signal(SIGXFSZ, SIG_IGN);
     vlmd.file = usual_file;
     if (!read_words(count, words)) {
-        write_log("usage: vlmd [-c FILE] [-s SOCKET] [--etcd MEMBERS [--prefix WORD] [--listen HOST:PORT]]");
+        write_log(usage);
         return WRONG_WORDS;
     }
     if (!fits_etcd(&vlmd.config) || !read_tls(&vlmd.config))

@@ -545,6 +545,10 @@ def configured(_program):
                           ([*replica, "--listen", "127.0.0.1"], 4), ([*replica, "--listen", "0.0.0.0:0"], 4)):
         ended = subprocess.run([PLAIN(), *words], capture_output=True, text=True, timeout=20)
         yield from difference((words, ended.returncode), (words, status))
+    version = (TOP / "VERSION").read_text()
+    for word, begins in (("--help", "usage: vlmd [-c FILE]"), ("--version", f"vlmd {version}")):
+        told = subprocess.run([PLAIN(), word], capture_output=True, text=True, timeout=20)
+        yield from difference((word, told.returncode, told.stdout[:len(begins)]), (word, 0, begins))
     made = Path(ROOM().name) / "made by the daemon"
     daemon = subprocess.Popen([PLAIN(), "-s", made / "socket"], stderr=subprocess.DEVNULL)
     until = time.monotonic() + 20
