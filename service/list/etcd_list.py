@@ -242,8 +242,13 @@ class EtcdList:
                 return
             after = page[-1].create_revision
 
+    def place(self, name: str, revision: int) -> Optional[int]:
+        """Where a batch is in the list as it is at a revision, or None. Raises Compacted as chunks does."""
+        found = self._range(self._entries + name, range_end="", keys_only=True, revision=revision).kvs
+        return int(found[0].create_revision) if found else None
+
     def _range(self, prefix: str, range_end: Optional[str] = None, seconds: float = _SECONDS, **words: Any) -> Any:
-        """The keys with a prefix, or up to an end."""
+        """The keys with a prefix, or up to an end; of an empty end, the key itself."""
         end = _after(prefix.encode()) if range_end is None else range_end.encode()
         request = etcdrpc.RangeRequest(key=prefix.encode(), range_end=end, **words)
 

@@ -173,6 +173,15 @@ class Members(unittest.TestCase):
             self.assertEqual([it.number for it in itertools.islice(self.store._unpacked(1, 9), 1)], [2])
             self.assertRaises(Broken, next, self.store._unpacked(0, 9))
 
+    def test_a_batch_has_its_place_and_one_that_is_not_there_has_none(self):
+        self.members[0].Range = mock.Mock(return_value=SimpleNamespace(
+            header=HEADER, kvs=[SimpleNamespace(create_revision=4)]))
+        self.assertEqual(self.store.place("a", 9), 4)
+        asked = self.members[0].Range.call_args[0][0]
+        self.assertEqual((asked.key, asked.range_end, asked.revision), (b"vlm/entries/a", b"", 9))
+        self.members[0].Range.return_value.kvs = []
+        self.assertIsNone(self.store.place("a", 9))
+
     def test_a_page_of_the_longest_batches_fits_into_an_answer(self):
         longest = (512 << 10) + (1 << 16) + 1024
         most = dict(etcd_list._OPTIONS)["grpc.max_receive_message_length"]
@@ -391,7 +400,7 @@ class Keeping(unittest.TestCase):
         self.to, batch = io.BytesIO(), Ends.batch
         chunks = [Chunk(1, 3, [batch(2, 1, 2), batch(3, 1, 3)])]
         self.store = SimpleNamespace(revision=lambda: 3, batches=lambda after, _: [],
-                                     chunks=lambda known, _: iter(chunks[known:]))
+                                     chunks=lambda known, _: iter(chunks[known:]), place=lambda *_: 5)
         self.keeper = vlm_list.Keeper(self.store, 1, self.to)
         self.keeper._tell_batch(batch(1, 1, 1))
 
@@ -415,6 +424,15 @@ class Keeping(unittest.TestCase):
         self.assertRaises(ValueError, self.keeper._follow)
         # (what was told is not read again)
         self.assertEqual(reads, [3, 5])
+
+    def test_a_list_that_has_lost_what_was_shown_is_broken(self):
+        self.store.chunks = lambda *_: iter([])
+        # (in the place of the batch is another one, or the batch was appended again, behind others)
+        for place in (None, 2):
+            self.store.place = lambda *_, place=place: place
+            self.assertRaises(Broken, self.keeper._read)
+        self.store.place = lambda *_: 1
+        self.assertEqual(self.keeper._read(), 3)
 
     def test_an_append_that_nothing_can_precede_is_told_at_once(self):
         own = Ends.batch(2, 1, 2)
