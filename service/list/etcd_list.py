@@ -20,6 +20,8 @@ from typing import Any, Callable, Dict, Iterator, List, Optional, Sequence, Set,
 # Between calls gRPC looks at its connections only every five seconds, and needs several looks to connect again after an
 # outage. Leases would run out meanwhile. (gRPC reads this variable when it is imported.)
 os.environ.setdefault("GRPC_CLIENT_CHANNEL_BACKUP_POLL_INTERVAL_MS", "100")
+# What gRPC says by itself would wait for somebody who reads standard error, and hold up all calls. Calls tell reasons.
+os.environ.setdefault("GRPC_VERBOSITY", "NONE")
 
 import etcd3
 import grpc

@@ -62,6 +62,23 @@ class Secured(unittest.TestCase):
             with self.assertRaises((ConnectionFailedError, ConnectionTimeoutError)):
                 etcd3.client(host, int(port), timeout=CALL, **files).get("vlm/")
 
+    def replica(self, **settings):
+        """A replica beside the others that has other files for etcd, and what it says."""
+        before, conf = (self.local.folder / "conf").read_text().splitlines(), self.local.folder / "other conf"
+        changed = [words for words in map(str.split, before) if words[0] not in settings]
+        changed += [[setting, str(file)] for setting, file in settings.items()]
+        conf.write_text("".join(f"{' '.join(words)}\n" for words in changed))
+        made = subprocess.Popen([f"{os.environ['VLM_PREFIX']}/bin/vlmd", "-c", str(conf), "-s", self.local.socket(9),
+                                 "--etcd", ",".join(self.local.members)], stderr=subprocess.PIPE, text=True)
+        self.addCleanup(made.stderr.close)
+        self.addCleanup(made.wait)
+        self.addCleanup(made.kill)
+        return made
+
+    def test_a_member_that_is_not_trusted_is_told_in_one_line(self):
+        made = self.replica(**{"etcd-authority": f"{KEYS}/locks.pem"})
+        self.assertRegex(made.stderr.readline(), "^vlm-list: read: no member of etcd answers: .*certificate verify fail")
+
 
 if __name__ == "__main__":
     unittest.main()
