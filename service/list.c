@@ -150,7 +150,7 @@ static void on_heard(uv_stream_t *stream, ssize_t len, const uv_buf_t *buffer) {
 static void on_end(uv_process_t *process, int64_t status, int number) {
     (void)process, (void)number;
     write_log("the list has ended");
-    exit(status == BROKEN_LIST ? BROKEN_LIST : LOST_LIST);
+    exit(status == BROKEN_LIST || status == WRONG_WORDS ? (int)status : LOST_LIST);
 }
 
 /* The program that keeps the list: that of VLM_LIST in the environment, else the one that is installed beside us. */

@@ -13,6 +13,7 @@ have taken effect although its answer is lost: every call below may be repeated.
 
 import logging
 import os
+import ssl
 import time
 from dataclasses import dataclass
 from typing import Any, Callable, Dict, Iterator, List, Optional, Sequence, Set, Tuple, TypeVar
@@ -57,6 +58,10 @@ _FINAL = {grpc.StatusCode.OUT_OF_RANGE, grpc.StatusCode.INVALID_ARGUMENT}
 class Broken(Exception):
     """The list is not what it was, so a replica that starts on it may grant what others hold: etcd was restored, its
     members have lost their disks or are of several clusters, or somebody has deleted keys."""
+
+
+class WrongFiles(Exception):
+    """Files of TLS that can't be used."""
 
 
 class TooLong(Exception):
@@ -108,6 +113,20 @@ def _reason(failed: Exception) -> str:
 def _time_for(value: bytes) -> float:
     """How long a member may take to put a value."""
     return _SECONDS + len(value) / _SLOWEST
+
+
+def look_at(files: Sequence[str]) -> None:
+    """Raises WrongFiles if no connection can be made with these files. gRPC would try for ever, and not say why."""
+    context, tried = ssl.SSLContext(ssl.PROTOCOL_TLS_CLIENT), files[:1]
+    try:
+        if tried:
+            context.load_verify_locations(tried[0])
+        tried = files[1:]
+        if tried:
+            # (Python would ask a terminal for the password of a key)
+            context.load_cert_chain(tried[0], tried[1], "")
+    except OSError as failed:
+        raise WrongFiles(f"{', '.join(tried)}: {failed.strerror}") from None
 
 
 def _after(prefix: bytes) -> bytes:

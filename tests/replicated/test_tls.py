@@ -15,6 +15,8 @@ ALICE = {**os.environ, "VLM_TLS_CERTIFICATE": f"{KEYS}/alice.pem", "VLM_TLS_KEY"
          "VLM_TLS_AUTHORITY": f"{KEYS}/locks.pem"}
 # How long a command may take, in seconds.
 PATIENCE = 60
+# The exit status of a daemon with wrong files.
+WRONG = 2
 
 
 class Secured(unittest.TestCase):
@@ -77,7 +79,17 @@ class Secured(unittest.TestCase):
 
     def test_a_member_that_is_not_trusted_is_told_in_one_line(self):
         made = self.replica(**{"etcd-authority": f"{KEYS}/locks.pem"})
-        self.assertRegex(made.stderr.readline(), "^vlm-list: read: no member of etcd answers: .*certificate verify fail")
+        said = made.stderr.readline()
+        self.assertRegex(said, "^vlm-list: read: no member of etcd answers: .*certificate verify failed")
+
+    def test_wrong_files_for_etcd_are_told_and_end_the_replica(self):
+        for setting, file in (("etcd-authority", "none.pem"), ("etcd-authority", "rights"), ("etcd-key", "none.key"),
+                              ("etcd-key", "rights"), ("etcd-key", "alice.key")):
+            with self.subTest(f"{setting} {file}"):
+                made = self.replica(**{setting: f"{KEYS}/{file}"})
+                said = made.stderr.readline()
+                self.assertTrue(said.startswith("vlm-list: ") and f"{KEYS}/{file}: " in said, said)
+                self.assertEqual(made.wait(PATIENCE), WRONG)
 
 
 if __name__ == "__main__":
