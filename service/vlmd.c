@@ -69,13 +69,18 @@ static void set_timer(uint64_t now) {
         uv_timer_start(&loop.due, on_due, due > now ? due - now : 0, 0);
 }
 
-/* Writes another epoch down before a client hears of it: the next daemon begins with a later one, also after a kill. */
+/* Writes another epoch down before a client hears of it: the next daemon begins with a later one, also after a kill. If
+ * that fails, this one ends, since the next one would give the same tokens and handles. */
 static void write_epoch(void) {
     if (vlmd.replica != NULL || dispatcher_epoch(vlmd.dispatcher) == loop.epoch)
         return;
     loop.epoch = dispatcher_epoch(vlmd.dispatcher);
-    if (!write_state(loop.state, loop.epoch, true))
-        write_log("the epoch can't be written down");
+    if (write_state(loop.state, loop.epoch, true))
+        return;
+    write_log("the epoch can't be written down: this daemon ends");
+    if (loop.is_own_listener)
+        unlink(vlmd.config.socket);
+    exit(NO_START);
 }
 
 static void end(void) {

@@ -280,16 +280,26 @@ def changed(_program):
 
 
 def unsynced(_program):
-    """A daemon whose epoch does not come to the disk does not start: after a crash of the machine the next one would
-    give the same tokens."""
+    """A daemon whose epoch does not come to the disk does not start, and ends when it begins another one: the next one
+    would give the same tokens. Nobody hears of that epoch."""
     folder = Path(PLAIN_ROOM().name)
-    (folder / "unsynced.c").write_text("int fdatasync(int descriptor) { return descriptor < 0 ? 0 : -1; }\n")
-    wrong = list(library.ran("cc", "-shared", "-fPIC", folder / "unsynced.c", "-o", folder / "unsynced.so"))
-    env = {**os.environ, "LD_PRELOAD": str(folder / "unsynced.so")}
+    (folder / "unsynced.c").write_text("""#include <stdlib.h>
+        int fdatasync(int descriptor) {
+            static int calls;
+            return descriptor >= 0 && calls++ < atoi(getenv("SYNCED")) ? 0 : -1;
+        }""")
+    yield from library.ran("cc", "-shared", "-fPIC", folder / "unsynced.c", "-o", folder / "unsynced.so")
+    env = {**os.environ, "LD_PRELOAD": str(folder / "unsynced.so"), "SYNCED": "0"}
     ended = subprocess.run([PLAIN(), "-c", "/dev/null", "-s", folder / "unsynced"], capture_output=True, text=True,
                            timeout=20, env=env)
-    yield from wrong
     yield from difference((ended.returncode, "unsynced.state can't be written" in ended.stderr), (4, True))
+    daemon = Daemon("identifications 100", made=PLAIN, folder=folder, env={**env, "SYNCED": "1"})
+    with daemon.client().begin("P") as client:
+        for _ in range(90):
+            client.ask("enq P EX name=A block=1")
+            client.send("deq P @1")
+            last = client.line()
+    yield from difference((last, daemon.run.wait(20), os.path.exists(daemon.socket)), (None, 4, False))
 
 
 def ranges(_program):
