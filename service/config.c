@@ -134,7 +134,7 @@ bool read_config(const char *file, bool must_be_there, struct config *config) {
         return true;
     }
     if (is_read)
-        snprintf(text, sizeof text, "%s line %u: no such setting, or a wrong value", file, row.number);
+        snprintf(text, sizeof text, "%s line %u: no such setting or group, or a wrong value", file, row.number);
     else
         snprintf(text, sizeof text, "%s can't be read", file);
     write_log(text);

@@ -549,6 +549,10 @@ def configured(_program):
     for word, begins in (("--help", "usage: vlmd [-c FILE]"), ("--version", f"vlmd {version}")):
         told = subprocess.run([PLAIN(), word], capture_output=True, text=True, timeout=20)
         yield from difference((word, told.returncode, told.stdout[:len(begins)]), (word, 0, begins))
+    wrong = Path(ROOM().name) / "wrong"
+    wrong.write_text("# administrators\nadmin no-such-group\n")
+    ended = subprocess.run([PLAIN(), "-c", wrong], capture_output=True, text=True, timeout=20)
+    yield from difference((ended.returncode, f"{wrong} line 2: no such setting or group" in ended.stderr), (2, True))
     made = Path(ROOM().name) / "made by the daemon"
     daemon = subprocess.Popen([PLAIN(), "-s", made / "socket"], stderr=subprocess.DEVNULL)
     until = time.monotonic() + 20
