@@ -456,17 +456,30 @@ class Keeping(unittest.TestCase):
         self.keeper._batches.put(b"batch")
         self.assertRaises(Broken, self.keeper._append)
 
+    @staticmethod
+    def status(keeper, frames):
+        """The status of the program with a keeper that is made up."""
+        with mock.patch.object(vlm_list, "Keeper", lambda *_: keeper), mock.patch.object(vlm_list, "EtcdList"), \
+                mock.patch.object(vlm_list.os, "_exit", side_effect=SystemExit) as ends, \
+                mock.patch.object(vlm_list.signal, "signal"), mock.patch.object(vlm_list.logging, "exception"), \
+                mock.patch.object(vlm_list.sys, "argv", ["vlm-list", "127.0.0.1:1", "vlm/", "1"]), \
+                mock.patch.object(vlm_list.sys, "stdin", SimpleNamespace(buffer=io.BytesIO(frames))):
+            try:
+                vlm_list.main()
+            except SystemExit:
+                return ends.call_args[0][0]
+
     def test_a_part_of_a_frame_is_not_heard(self):
         whole, heard = struct.pack("<I", 6) + b"abatch", []
         for cut in range(1, len(whole)):
             keeper = SimpleNamespace(start=lambda: None, hear=heard.append)
-            with mock.patch.object(vlm_list, "Keeper", lambda *_, made=keeper: made), \
-                    mock.patch.object(vlm_list, "EtcdList"), mock.patch.object(vlm_list.os, "_exit"), \
-                    mock.patch.object(vlm_list.signal, "signal"), \
-                    mock.patch.object(vlm_list.sys, "argv", ["vlm-list", "127.0.0.1:1", "vlm/", "1"]), \
-                    mock.patch.object(vlm_list.sys, "stdin", SimpleNamespace(buffer=io.BytesIO(whole + whole[:cut]))):
-                vlm_list.main()
+            self.assertEqual(self.status(keeper, whole + whole[:cut]), 0)
         self.assertEqual(heard, [b"abatch"] * (len(whole) - 1))
+
+    def test_a_list_that_gets_no_thread_ends(self):
+        # (others that have begun would hold the program up)
+        keeper = SimpleNamespace(start=mock.Mock(side_effect=RuntimeError("can't start new thread")))
+        self.assertEqual(self.status(keeper, b""), 1)
 
     def test_a_reading_that_etcd_overtakes_ends_no_list(self):
         self.store.chunks = mock.Mock(side_effect=Compacted)
