@@ -3,14 +3,19 @@
 import os
 import random
 import re
+import select
 import signal
 import socket
 import sys
 import time
 import unittest
 from pathlib import Path
+from unittest import mock
 
-from local import Local
+import etcd3
+import grpc
+
+from local import CALL, Local
 
 sys.path.insert(0, str(Path(__file__).resolve().parents[2] / "service" / "list"))
 from etcd_list import EtcdList  # noqa: E402
@@ -20,6 +25,8 @@ PATIENCE = 20.0
 # Bytes of a chunk, and steps that fill it.
 CHUNK, STEPS = 3_000, 60
 VALUE = "00112233445566778899aabbccddeeff"
+# The quota of a small etcd, and the value of a key that fills it.
+SMALL, FILLING = 4 << 20, 100_000 * "x"
 # How often two connections of one session race, and the longest head start of either in seconds.
 RACES, HEAD_START = int(os.environ.get("VLM_RACES", "80")), 0.004
 
@@ -44,6 +51,10 @@ class Lines:
         """The next line, or None at the end."""
         line = self._file.readline()
         return line.decode().rstrip("\n") if line else None
+
+    def is_quiet(self, seconds=1.0):
+        """Whether nothing comes for a while."""
+        return not select.select([self._socket], [], [], seconds)[0]
 
     def texts(self, line):
         """The lines up to a blank one."""
@@ -310,6 +321,42 @@ class Lost(unittest.TestCase):
             self.assertNotEqual(there.ask("enq P EX name=B block=1"), None)
             self.assertEqual(local.processes["replica 1"].wait(PATIENCE), 3)
             self.assertIn("the list lacks a batch", (local.folder / "replica 1.log").read_text())
+
+
+class Full(unittest.TestCase):
+    """A replica over an etcd that has no room any more."""
+
+    def setUp(self):
+        with mock.patch.dict(os.environ, ETCD_QUOTA_BACKEND_BYTES=str(SMALL)):
+            self.local = Local(1, 1)
+        self.addCleanup(self.local.close)
+        self.local.wait()
+        host, port = self.local.members[0].split(":")
+        self.etcd = etcd3.client(host, int(port), timeout=CALL)
+
+    def fill(self):
+        with self.assertRaises(grpc.RpcError) as refused:
+            # (etcd looks at its size ten times a second)
+            for number in range(10 * SMALL // len(FILLING)):
+                self.etcd.put(f"other {number}", FILLING)
+        self.assertEqual(refused.exception.code(), grpc.StatusCode.RESOURCE_EXHAUSTED)
+
+    def make_room(self):
+        self.etcd.delete_prefix("other ")
+        self.etcd.compact(self.etcd.get_response("other").header.revision, physical=True)
+        self.etcd.defragment()
+        for alarm in list(self.etcd.list_alarms()):
+            list(self.etcd.disarm_alarm(alarm.member_id))
+
+    def test_the_list_goes_on_once_there_is_room(self):
+        p = Lines(self.local.places[0], "open seconds=60", "declare P", "enq P EX name=A block=1")
+        self.addCleanup(p.close)
+        self.fill()
+        p.send("enq P EX name=B block=2")
+        self.assertTrue(p.is_quiet())
+        self.make_room()
+        self.assertRegex(p.next(), "^P: NORMAL lock")
+        self.assertEqual(len(p.texts("who")), 2)
 
 
 if __name__ == "__main__":
