@@ -263,8 +263,8 @@ bool is_word(struct word word, const char *text);
 bool keyed(struct word word, const char *key, struct word *rest);
 bool decimal(struct word word, uint64_t most, uint64_t *number);
 
-/* known_lines.c: what a line is that was read before, or null; reads a line, null if that has too many bytes; keeps what
- * was read of a client's line without its number */
+/* known_lines.c. known_line: what was read of a client's line before, or null. read_line: what a line is, or null if it
+ * has too many bytes. keep_line: keeps what was read of a client's line. All without the numbers of lines. */
 const vlm_line *known_line(const struct client *client, struct word text);
 const vlm_line *read_line(struct dispatcher *dispatcher, struct word text);
 void keep_line(const struct client *client, struct word text, const vlm_line *line);
