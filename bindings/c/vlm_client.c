@@ -1,5 +1,6 @@
 /* Opening, closing and processes of a client of the lock service. */
 #include "vlm_client_parts.h"
+#include "vlm_descriptors.h"
 
 #include <signal.h>
 #include <stdio.h>
@@ -72,7 +73,7 @@ static bool has_queue(vlm_client *client) {
     return client->queue != NULL && (client->lease == 0 || client->kept != NULL);
 }
 
-static int new_counter(void) { return vlmc_clear_of_streams(eventfd(0, EFD_CLOEXEC | EFD_NONBLOCK)); }
+static int new_counter(void) { return clear_of_streams(eventfd(0, EFD_CLOEXEC | EFD_NONBLOCK)); }
 
 static bool has_descriptors(vlm_client *client) {
     bool is_by_program = client->options.delivery == VLM_THREADS_BY_PROGRAM;

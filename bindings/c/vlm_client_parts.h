@@ -202,11 +202,8 @@ bool vlmc_find_addresses(vlm_client *client);
 bool vlmc_connect_to(const vlm_client *client, struct channel *channel, uint64_t until);
 bool vlmc_wait_for(const vlm_client *client, int descriptor, short events, uint64_t until);
 
-/* vlm_client_sockets.c. vlmc_open_socket makes a socket that forked children close, or answers -1.
- * vlmc_clear_of_streams gives a descriptor another number if it has that of a standard stream: in the place of one that
- * is closed, it would get what the program prints. */
+/* vlm_client_sockets.c: makes a socket that forked children close, or answers -1. */
 int vlmc_open_socket(int family, int kind);
-int vlmc_clear_of_streams(int descriptor);
 
 /* vlm_client_sessions.c: none takes a mutex held. vlmc_connect begins a session: VLM_NORMAL or VLM_LOST. vlmc_go_on
  * resumes it at the address whose turn it is. vlmc_is_end tells whether a line says that the session is over, and

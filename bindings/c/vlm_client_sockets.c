@@ -1,8 +1,8 @@
 /* The sockets of clients. A forked child has a copy of each, and at a socket of Unix a session lasts until the last
  * copy is closed: a child that lives on would keep the locks of a parent that has ended. So it closes its copies. */
 #include "vlm_client_parts.h"
+#include "vlm_descriptors.h"
 
-#include <fcntl.h>
 #include <stdlib.h>
 #include <string.h>
 #include <sys/socket.h>
@@ -30,14 +30,6 @@ static void begin_child(void) {
     pthread_mutex_unlock(&sockets.mutex);
 }
 
-int vlmc_clear_of_streams(int descriptor) {
-    if (descriptor < 0 || descriptor > STDERR_FILENO)
-        return descriptor;
-    int moved = fcntl(descriptor, F_DUPFD_CLOEXEC, STDERR_FILENO + 1);
-    close(descriptor);
-    return moved;
-}
-
 /* Notes a socket. Without memory it is closed. */
 static int note(int descriptor) {
     if (descriptor >= sockets.room) {
@@ -61,7 +53,7 @@ int vlmc_open_socket(int family, int kind) {
     if (!sockets.is_watching)
         sockets.is_watching = pthread_atfork(before_fork, after_fork, begin_child) == 0;
     if (sockets.is_watching)
-        descriptor = vlmc_clear_of_streams(socket(family, kind | SOCK_CLOEXEC, 0));
+        descriptor = clear_of_streams(socket(family, kind | SOCK_CLOEXEC, 0));
     if (descriptor >= 0)
         descriptor = note(descriptor);
     pthread_mutex_unlock(&sockets.mutex);

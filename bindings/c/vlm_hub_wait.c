@@ -1,4 +1,4 @@
-/* How the threads of a hub sleep. It shares nothing with the layer for threads.
+/* How the threads of a hub sleep. It shares no state with the layer for threads.
  *
  * No wake-up is lost. A thread sleeps only after it has looked and found nothing. What comes for it is first put into
  * the ring of items or posts, and then the bell is rung. A bell that is rung before the sleep ends the sleep at once; a
@@ -14,6 +14,7 @@
 #define _POSIX_C_SOURCE 200809L
 
 #include "vlm_hub_wait.h"
+#include "vlm_descriptors.h"
 
 #include <errno.h>
 #include <poll.h>
@@ -64,7 +65,7 @@ uint32_t vlm_bell_open_on(vlm_bell *bell, int descriptor) {
 uint32_t vlm_bell_open(vlm_bell *bell) {
     if (is_open(bell))
         return VLM_BADPARAM;
-    int descriptor = eventfd(0, EFD_CLOEXEC | EFD_NONBLOCK);
+    int descriptor = clear_of_streams(eventfd(0, EFD_CLOEXEC | EFD_NONBLOCK));
     if (descriptor < 0)
         return VLM_INSFMEM;
     *bell = (vlm_bell){.descriptor = descriptor, .is_made = 1};

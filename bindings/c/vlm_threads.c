@@ -53,7 +53,7 @@ static bool open_manager(vlm_threads *layer) {
 
 static bool open_delivery(vlm_threads *layer) {
     if (layer->options.delivery == VLM_THREADS_BY_PROGRAM) {
-        layer->queue.descriptor = eventfd(0, EFD_CLOEXEC | EFD_NONBLOCK);
+        layer->queue.descriptor = clear_of_streams(eventfd(0, EFD_CLOEXEC | EFD_NONBLOCK));
         return layer->queue.descriptor >= 0;
     }
     layer->has_dispatcher = start_thread(&layer->dispatcher, vlmt_dispatch, layer);

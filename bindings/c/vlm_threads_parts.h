@@ -23,6 +23,7 @@
 
 #define _POSIX_C_SOURCE 200809L
 
+#include "vlm_descriptors.h"
 #include "vlm_threads.h"
 
 #include <pthread.h>

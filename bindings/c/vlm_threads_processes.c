@@ -145,7 +145,7 @@ static struct queue *made_queue(void) {
     struct queue *queue = calloc(1, sizeof *queue);
     if (!queue)
         return NULL;
-    queue->descriptor = eventfd(0, EFD_CLOEXEC | EFD_NONBLOCK);
+    queue->descriptor = clear_of_streams(eventfd(0, EFD_CLOEXEC | EFD_NONBLOCK));
     if (queue->descriptor >= 0)
         return queue;
     free(queue);

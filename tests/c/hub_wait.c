@@ -6,6 +6,7 @@
 #include <poll.h>
 #include <pthread.h>
 #include <sys/eventfd.h>
+#include <sys/wait.h>
 #include <time.h>
 #include <unistd.h>
 
@@ -371,6 +372,23 @@ static void parts(void) {
     close_all();
 }
 
+/* In a program without standard streams a bell takes none of their numbers: it would get what is printed. */
+static void clear_of_streams(void) {
+    pid_t child = fork();
+    int status;
+    if (child == 0) {
+        vlm_bell bell = VLM_BELL_CLOSED;
+        for (int stream = 0; stream <= STDERR_FILENO; stream++)
+            close(stream);
+        bool is_right = vlm_bell_open(&bell) == VLM_NORMAL && bell.descriptor > STDERR_FILENO;
+        vlm_bell_ring(&bell);
+        is_right &= vlm_bell_wait(&bell, 0) == VLM_NORMAL;
+        vlm_bell_close(&bell);
+        _exit(!is_right);
+    }
+    HOLD(waitpid(child, &status, 0) == child && status == 0);
+}
+
 /* The same by bells of functions. */
 static void by_functions(void) {
     struct chime chimes[2];
@@ -389,6 +407,7 @@ static void by_functions(void) {
 }
 
 int main(void) {
+    clear_of_streams();
     bells_alone();
     race_of_bells();
     turns_ring();

@@ -1,7 +1,9 @@
 /* Queues of processes, the mode that a warning tells of, `released` routines, and two threads that poll. */
 #include "threads_test.h"
 
+#include <fcntl.h>
 #include <poll.h>
+#include <sys/wait.h>
 #include <unistd.h>
 
 static vlm_threads *layer;
@@ -279,7 +281,27 @@ static void test_cancelled(void) {
     EXPECT(vlm_threads_rundown(layer, pid), VLM_NONEXPR);
 }
 
+/* In a program without standard streams the layer takes none of their numbers: it would get what is printed. */
+static void test_streams(void) {
+    pid_t child = fork();
+    int status;
+    if (child == 0) {
+        bool is_free = true;
+        for (int stream = 0; stream <= STDERR_FILENO; stream++)
+            close(stream);
+        layer = opened(VLM_THREADS_BY_PROGRAM, 0);
+        uint32_t pid = declared_with(1);
+        for (int stream = 0; stream <= STDERR_FILENO; stream++)
+            is_free &= fcntl(stream, F_GETFD) < 0;
+        EXPECT(vlm_threads_rundown(layer, pid), VLM_NORMAL);
+        vlm_threads_close(layer);
+        _exit(wrong != 0 || !is_free);
+    }
+    HOLD(waitpid(child, &status, 0) == child && status == 0);
+}
+
 int main(void) {
+    test_streams();
     pthread_barrier_init(&both, NULL, 2);
     layer = opened(VLM_THREADS_BY_PROGRAM, 0);
     test_own_queue();
