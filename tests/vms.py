@@ -377,6 +377,16 @@ def page(_program):
     yield from (f"docs/VMS.md has no VLM${name}" for name in sorted(settings) if f"`VLM${name}`" not in text)
 
 
+def by_page(_program):
+    """The example of docs/VMS.md is compiled and run as the page says, here without a vlmd."""
+    [lines] = re.findall(r"```sh\n(export .*?)```", (TOP / "docs" / "VMS.md").read_text(), re.S)
+    lines = lines.replace("PREFIX", shlex.quote(str(library.prefix()))).replace("=/run/vlm/lock.sock", "=")
+    folder = tempfile.mkdtemp(dir=ROOM().name)
+    shutil.copy(TOP / "vms" / "examples" / "counter.c", folder)
+    done = subprocess.run(["sh", "-e", "-c", lines], cwd=folder, capture_output=True, text=True, timeout=SECONDS)
+    yield from difference((done.returncode, done.stdout, done.stderr), (0, "1, 0\n1, 1\n1, 2\n", ""))
+
+
 def first():
     return service.first()
 
@@ -398,6 +408,7 @@ def once():
     found += [Test("the services by TLS", secured)] * (bool(links) and not service_tls.missing())
     found += [Test("examples alone", alone), Test("the names that the libraries for OpenVMS show", names_shown),
               Test("docs/VMS.md against the headers", page)]
+    found += [Test("the commands of docs/VMS.md", by_page)] * bool(shutil.which("pkg-config"))
     for compiler in filter(shutil.which, library.COMPILERS):
         found.append(Test(f"the headers for OpenVMS by {compiler}", partial(headers, compiler)))
         found += [Test(f"pkg-config of the layer for OpenVMS and {compiler} with {standard}",
