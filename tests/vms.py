@@ -97,7 +97,8 @@ def services(compiler, sanitizer, _program):
     that is lost or not there."""
     made = made_program(HERE / "services.c", compiler, sanitizer, "-Wl,--wrap=calloc,--wrap=realloc")
     yield from library.ran(made, env=environment(ENQLM=QUOTA, DEADLOCK_WAIT=WAIT / 1000))
-    yield from library.ran(made, "waits", env=environment(ASTS="wait"))
+    # (what is no number is ignored)
+    yield from library.ran(made, "waits", env=environment(ASTS="wait", ENQLM="many", DEADLOCK_WAIT="long"))
     yield from library.ran(made, "memory", env=environment())
     with Daemon(f"search {WAIT}", made=PLAIN) as daemon:
         yield from library.ran(made, env=environment(daemon, ENQLM=QUOTA))

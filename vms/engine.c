@@ -41,9 +41,11 @@ static const struct engine *named(const char **address) {
     return is_address || strchr(service, '/') != NULL ? &vms_by_vlmd : NULL;
 }
 
+/* A value that is not a number is ignored. */
 static uint32_t quota(void) {
     const char *text = vms_setting("ENQLM");
-    unsigned long asked = text != NULL ? strtoul(text, NULL, DECIMAL) : USUAL_QUOTA;
+    bool is_number = text != NULL && text[strspn(text, "0123456789")] == 0;
+    unsigned long asked = is_number ? strtoul(text, NULL, DECIMAL) : USUAL_QUOTA;
     return asked < VLM_MAX_QUOTA ? (uint32_t)asked : VLM_MAX_QUOTA;
 }
 
