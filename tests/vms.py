@@ -7,6 +7,7 @@ import os
 import re
 import shlex
 import shutil
+import socket
 import subprocess
 import tempfile
 import time
@@ -108,6 +109,11 @@ def services(compiler, sanitizer, _program):
         yield from library.ran(made, "lost", daemon.run.pid, env=lost)
     yield from library.ran(made, "unreachable", env=environment(SERVICE="/nowhere/at/all"))
     yield from library.ran(made, "unsupported", env=environment(SERVICE="etcd"))
+    with socket.socket(socket.AF_UNIX) as deaf:
+        path = f"{tempfile.mkdtemp(dir=ROOM().name)}/deaf"
+        deaf.bind(path)
+        deaf.listen()
+        yield from library.ran(made, "opening", env=environment(SERVICE=path))
 
 
 # A locale with a decimal comma.

@@ -3,6 +3,7 @@
 
 #include "ssdef.h"
 
+#include <stdatomic.h>
 #include <stdio.h>
 #include <stdlib.h>
 #include <string.h>
@@ -13,7 +14,8 @@ enum { USUAL_QUOTA = VLM_MAX_QUOTA, DECIMAL = 10, SETTING = 64, FIRST_ROWS = 16 
 static pthread_mutex_t opening = PTHREAD_MUTEX_INITIALIZER;
 /* Guarded by `opening`. */
 static const struct engine *opened;
-static pid_t owner; /* 0 until a process has claimed the layer */
+/* 0 until a process has claimed the layer. */
+static _Atomic pid_t owner;
 
 const char *vms_setting(const char *name) {
     static const char *const prefixes[] = {"VLM$", "VLM_"}; /* (a shell has no names with a dollar) */
@@ -64,23 +66,17 @@ static uint32_t open_named(void) {
     return vms_condition(status);
 }
 
-/* Wants `opening` held. */
-static bool claim(void) {
-    if (owner == 0)
-        owner = getpid();
-    return owner == getpid();
-}
-
 bool vms_claim(void) {
-    pthread_mutex_lock(&opening);
-    bool is_owner = claim();
-    pthread_mutex_unlock(&opening);
-    return is_owner;
+    pid_t claimed = 0, own = getpid();
+    return atomic_load(&owner) == own || atomic_compare_exchange_strong(&owner, &claimed, own) || claimed == own;
 }
 
+/* In the child after a fork the mutex may be taken for ever. */
 uint32_t vms_open(const struct engine **engine) {
+    if (!vms_claim())
+        return SS$_UNSUPPORTED;
     pthread_mutex_lock(&opening);
-    uint32_t status = !claim() ? SS$_UNSUPPORTED : opened == NULL ? open_named() : SS$_NORMAL;
+    uint32_t status = opened == NULL ? open_named() : SS$_NORMAL;
     *engine = opened;
     pthread_mutex_unlock(&opening);
     return status;

@@ -6,6 +6,7 @@
  *     services lost PID  kills the lock service PID, and tests that the locks are lost
  *     services forked    two processes, the child of a fork before the first service and its parent
  *     services declared  the child of a fork after an AST, and before the first service for locks
+ *     services opening   the child of a fork while another thread opens the lock manager
  *     services locale    a deadlock in a locale with a decimal comma
  *     services waits     ASTs with VLM$ASTS=wait
  *     services memory    each allocation is refused in turn; it is linked with a calloc and a realloc of its own
@@ -466,11 +467,27 @@ static void test_fork(void) {
     if (child == 0) {
         LKSB lksb;
         const ILE3 items[] = {{0, 0, NULL, NULL}};
+        alarm(5);
         CHECK(enqw(LCK$K_EXMODE, &lksb, 0, &name_a) == SS$_UNSUPPORTED && deq(&lksb) == SS$_UNSUPPORTED);
         CHECK(sys$getlkiw(2, &lksb.lksb$l_lkid, (void *)items, NULL, 0, 0, 0) == SS$_UNSUPPORTED);
         _exit(0);
     }
     CHECK(waitpid(child, &status, 0) == child && WIFEXITED(status) && WEXITSTATUS(status) == 0);
+}
+
+static void *ask(void *unused) {
+    LKSB lksb;
+    enqw(LCK$K_EXMODE, &lksb, 0, &name_a);
+    return unused;
+}
+
+/* A child is refused also if a thread of its parent is connecting to a lock service that does not answer. */
+static void test_opening(void) {
+    pthread_t thread;
+    CHECK(pthread_create(&thread, NULL, ask, NULL) == 0);
+    usleep(200 * THOUSAND);
+    test_fork();
+    _exit(EXIT_SUCCESS);
 }
 
 /* The lock service ends: what waits learns so, and so does each later call. */
@@ -658,8 +675,8 @@ int main(int count, char **words) {
     static const struct {
         const char *word;
         void (*run)(void);
-    } tests[] = {{"forked", test_forked}, {"declared", test_declared}, {"locale", test_locale},
-                 {"waits", test_waits},   {"memory", test_memory},     {"all", run_all}};
+    } tests[] = {{"forked", test_forked}, {"declared", test_declared}, {"locale", test_locale}, {"waits", test_waits},
+                 {"memory", test_memory}, {"opening", test_opening},   {"all", run_all}};
     LKSB lksb;
     const char *word = count == 1 ? "all" : words[1];
     for (size_t at = 0; at < sizeof tests / sizeof *tests; at++)

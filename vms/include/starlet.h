@@ -7,7 +7,7 @@
  * Any thread may call any service. The first service for locks opens the lock manager that VLM$SERVICE names in the
  * environment, and makes this process of the operating system a process there. Its locks end with it. In the child
  * after a fork the services for locks answer SS$_UNSUPPORTED, if the parent had called one of them or sys$dclast
- * before, whatever the answer was: call exec first.
+ * before, whatever the answer was. Other services may wait for ever there: call exec first.
  *
  * A thread that is cancelled by pthread_cancel in a service ends after it, if its cancelability type is deferred.
  *
