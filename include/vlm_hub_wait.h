@@ -63,7 +63,7 @@ void vlm_bell_close(vlm_bell *bell);
 void vlm_bell_ring(vlm_bell *bell);
 
 /* Waits for a ring for so many milliseconds, or with -1 for ever. NORMAL: it was rung. TIMEOUT. BADPARAM: the bell is
- * closed, or its descriptor is no eventfd. */
+ * closed, or its descriptor is. */
 uint32_t vlm_bell_wait(vlm_bell *bell, int milliseconds);
 
 /* A status block that the thread of a port reads. A completion AST tells only that a request has ended. The status
@@ -137,7 +137,7 @@ uint32_t vlm_port_posted(uint32_t status, vlm_bell *hub_bell);
  * vlm_port_take instead rings the hub's bell itself.
  * NORMAL: *item is the item.
  * TIMEOUT: *item is of the kind VLM_NO_ITEM.
- * BADPARAM: the port or the bell is closed, or the item has another size. */
+ * BADPARAM: the port is closed, or the bell is and no item has come, or the item has another size. */
 uint32_t vlm_port_next(vlm_port *port, vlm_bell *bell, vlm_bell *hub_bell, int milliseconds, vlm_item *item);
 
 /* Reads the status block that `read` names, by the hub's thread: rings the hub's bell, and waits for the answer on the
