@@ -295,7 +295,8 @@ uint32_t vlm_threads_cancel(vlm_threads *layer, uint32_t pid, uint32_t *cancelle
  * start form, or another queue.
  *
  * A `released` routine runs as an event of the queue does. It is called after the lock has gone or got another mode,
- * the request has ended without a grant, or the process has ended. */
+ * the request has ended without a grant, or the process has ended. The queue of a process ends with it: what is left of
+ * `released` routines is in the layer's queue then, for vlm_threads_dispatch if the program runs the routines. */
 
 /* Tells the file descriptor of the layer's queue, for poll, select and epoll. It is readable while an event is pending
  * and no dispatch of the queue runs. Only the layer reads, writes and closes it.

@@ -185,6 +185,18 @@ static void test_released(void) {
     HOLD(released() == 3);
 }
 
+/* The queue of a process goes with it, and leaves what it has to release to the layer's. */
+static void test_released_later(void) {
+    uint32_t p = declared_with(1);
+    vlm_threads_request holds = counted(p, VLM_EX);
+    EXPECT(enq(layer, &holds, "A"), VLM_NORMAL);
+    EXPECT(deq(layer, p, holds.lkid, 0), VLM_NORMAL);
+    EXPECT(enq(layer, &holds, "A"), VLM_NORMAL);
+    HOLD(released() == 0);
+    EXPECT(vlm_threads_rundown(layer, p), VLM_NORMAL);
+    HOLD(released() == 2);
+}
+
 /* A warning tells what the first request wants that the lock is in the way of. */
 static void test_wanted(void) {
     static const uint32_t wants[] = {VLM_PR, VLM_EX};
@@ -307,6 +319,7 @@ int main(void) {
     test_own_queue();
     test_slow_routine();
     test_released();
+    test_released_later();
     test_wanted();
     test_two_pollers();
     test_cancelled();
