@@ -30,6 +30,24 @@ static void begin_child(void) {
     pthread_mutex_unlock(&sockets.mutex);
 }
 
+/* Wants the mutex held. */
+static bool watches_forks(void) {
+    if (!sockets.is_watching)
+        sockets.is_watching = pthread_atfork(before_fork, after_fork, begin_child) == 0;
+    return sockets.is_watching;
+}
+
+/* Functions that a fork begins with are called in the order opposite to that in which they were given. So this one
+ * comes after those of the program, which may take a mutex that another thread has while it calls the client; and
+ * before those of the allocator, which has given its own by now, and which is called here with the mutex held. */
+__attribute__((constructor)) static void begin(void) {
+    void *volatile block = malloc(1);
+    free(block);
+    pthread_mutex_lock(&sockets.mutex);
+    watches_forks();
+    pthread_mutex_unlock(&sockets.mutex);
+}
+
 /* Notes a socket. Without memory it is closed. */
 static int note(int descriptor) {
     if (descriptor >= sockets.room) {
@@ -50,9 +68,7 @@ static int note(int descriptor) {
 int vlmc_open_socket(int family, int kind) {
     int descriptor = -1;
     pthread_mutex_lock(&sockets.mutex);
-    if (!sockets.is_watching)
-        sockets.is_watching = pthread_atfork(before_fork, after_fork, begin_child) == 0;
-    if (sockets.is_watching)
+    if (watches_forks())
         descriptor = clear_of_streams(socket(family, kind | SOCK_CLOEXEC, 0));
     if (descriptor >= 0)
         descriptor = note(descriptor);

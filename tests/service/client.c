@@ -367,6 +367,35 @@ static void test_streams(void) {
     CHECK(waitpid(child, &status, 0) == child && status == 0);
 }
 
+/* A mutex of the program, which it takes for each fork. */
+static pthread_mutex_t own = PTHREAD_MUTEX_INITIALIZER;
+static atomic_bool has_own;
+
+static void take_own(void) { pthread_mutex_lock(&own); }
+
+static void give_own(void) { pthread_mutex_unlock(&own); }
+
+static void *open_with_own(void *unused) {
+    take_own();
+    has_own = true;
+    usleep(100000);
+    vlm_client_close(opened((vlm_client_options){.delivery = VLM_THREADS_BY_LAYER}));
+    give_own();
+    return unused;
+}
+
+/* A fork waits for the mutex of the program, which another thread has while it opens a client. */
+static void test_order(void) {
+    pthread_t thread;
+    CHECK(pthread_create(&thread, NULL, open_with_own, NULL) == 0);
+    while (!has_own)
+        usleep(1000);
+    pid_t child = fork();
+    if (child == 0)
+        _exit(0);
+    CHECK(waitpid(child, NULL, 0) == child && pthread_join(thread, NULL) == 0);
+}
+
 static void reopen(vlm_client *client) {
     int tries = 0;
     start_daemon();
@@ -965,6 +994,7 @@ int main(int count, char **words) {
     vlmd = words[1];
     config = words[2];
     path = words[3];
+    CHECK(pthread_atfork(take_own, give_own, give_own) == 0);
     start_daemon();
     test_answers();
     test_malformed();
@@ -975,6 +1005,7 @@ int main(int count, char **words) {
     test_fork();
     test_heir();
     test_streams();
+    test_order();
     test_loss();
     test_unsent();
     test_reopen();
