@@ -1,11 +1,12 @@
 /* Lines that were read lately. Programs repeat their lines: they lock the same resources again and again. What
  * vlm_read_line makes of a line depends on its bytes alone, so it is kept until another line comes to the same place.
- * Each UIC group has lines of its own, so nobody can tell by the time of an answer which names another group uses. */
+ * Each UIC group has lines of its own, and places are chosen by a random key: nobody can tell by the time of an answer
+ * which names another group uses. */
 #include "parts.h"
 
 #include <string.h>
 
-enum { PART = 8, HALF = 32 };
+enum { PART = 8, HALF = 32, REST_BITS = 64 - KNOWN_BITS };
 
 /* (any odd number with many bits) */
 static const uint64_t factor = 0x9E3779B97F4A7C15;
@@ -19,13 +20,16 @@ static uint64_t mix(uint64_t hash, const char *bytes) {
 
 /* The place of a line, or null for one that is too short or too long to be kept. */
 static struct known_line *place_of(const struct client *client, struct word text) {
-    uint64_t hash = client->rights.group;
+    uint64_t hash;
     if (text.len < PART || text.len > KNOWN_BYTES)
         return NULL;
+    memcpy(&hash, client->dispatcher->keys, sizeof hash);
+    hash = (hash ^ client->rights.group) * factor;
     for (size_t at = 0; at + PART < text.len; at += PART)
         hash = mix(hash, text.bytes + at);
     hash = mix(hash, text.bytes + text.len - PART);
-    return &client->dispatcher->known[hash % KNOWN_LINES];
+    /* (the last bytes of a line change only the high bits of a product, and alike lines often differ there) */
+    return &client->dispatcher->known[hash >> REST_BITS];
 }
 
 const vlm_line *known_line(const struct client *client, struct word text) {

@@ -47,7 +47,8 @@ enum {
     KEPT_ROOM = 256, /* of a client's output between two answers */
     NUMBER_DIGITS = 20,
     PAIR = 512, /* bytes of an AST and its block line */
-    KNOWN_LINES = 1024,
+    KNOWN_BITS = 10,
+    KNOWN_LINES = 1 << KNOWN_BITS,
     KNOWN_BYTES = 120 /* of a known line at most */
 };
 

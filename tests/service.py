@@ -835,6 +835,12 @@ def over_dispatcher(name, source, compiler, *words):
                                   library.prefix() / "lib" / "libvlm.a", "-pthread", "-o", made))
 
 
+def known_lines(_program):
+    """What is wrong with the places of the lines that the dispatcher remembers."""
+    made, wrong = over_dispatcher("known lines", "known_lines.c", "cc", *SANITIZED)
+    yield from wrong or library.ran(made)
+
+
 def asked_at_random(pick):
     """A request of P or Q."""
     return f"enq {pick.choice('PQ')} {pick.choice(MODES)} name={pick.choice('ABC')} block=1 bast=1 ast=2"
@@ -921,7 +927,8 @@ BEHAVIOURS = {"a daemon without a log": without_log,
               "the first session of the page": shown_talk, "half lines": half_lines, "killed clients": killed,
               "a client that reads no answers": deaf, "a client that reads no ASTs": cut_off,
               "many long answers": long_answers, "many lines of one client": fair,
-              "lines that come again": repeated_lines, "limits of a user": limits,
+              "lines that come again": repeated_lines, "lines that are remembered": known_lines,
+              "limits of a user": limits,
               "what show and who print": shown, "readings of single locks": readings,
               "sessions that are resumed": resumed, "repeated steps": repeated, "processes of another session": hidden,
               "a daemon that ends": restarted, "a second daemon": one_daemon, "what is in the way": in_the_way,

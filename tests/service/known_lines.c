@@ -1,0 +1,82 @@
+/* Lines that the dispatcher remembers: most of a hundred that are alike, wherever they differ. Their places can't be
+ * foretold: other keys give others. */
+#include "parts.h"
+
+#include <stdio.h>
+#include <string.h>
+
+enum { KEYS = 16, LINES = 100, WANTED = 80, ROOM = 64 };
+
+static struct dispatcher *dispatcher;
+static struct client *client;
+
+static void be_silent(const char *text) { (void)text; }
+
+/* The lines of a form: a number of two digits stands at its `#`. */
+static struct word line_of(const char *form, int number, char text[ROOM]) {
+    int before = (int)strcspn(form, "#");
+    int len = snprintf(text, ROOM, "%.*s%02d%s", before, form, number, form + before + 1);
+    return (struct word){text, (size_t)len};
+}
+
+static void start(uint8_t key) {
+    static const struct limits limits = USUAL_LIMITS;
+    const struct rights rights = {.group = 1};
+    const uint8_t keys[KEYS] = {key, 2, 3};
+    dispatcher = dispatcher_open(&limits, 0, keys, be_silent);
+    client = client_open(dispatcher, &rights, 0, dispatcher);
+}
+
+static void send(struct word line) {
+    size_t len;
+    client_hear(client, (const uint8_t *)line.bytes, line.len);
+    client_hear(client, (const uint8_t *)"\n", 1);
+    client_output(client, &len);
+    client_sent(client, len);
+}
+
+/* How many lines of a form are known after all of them have come. */
+static int known_of(const char *form) {
+    char text[ROOM];
+    int count = 0;
+    for (int number = 0; number < LINES; number++)
+        send(line_of(form, number, text));
+    for (int number = 0; number < LINES; number++)
+        count += known_line(client, line_of(form, number, text)) != NULL;
+    return count;
+}
+
+/* Where a line is kept by a key. */
+static ptrdiff_t place_by(uint8_t key) {
+    char text[ROOM];
+    struct word line = line_of("deq P @#", 1, text);
+    start(key);
+    send(line);
+    ptrdiff_t place = (const char *)known_line(client, line) - (const char *)dispatcher->known;
+    dispatcher_close(dispatcher);
+    return place;
+}
+
+int main(void) {
+    static const char *const forms[] = {"deq P @#",
+                                        "block P #",
+                                        "cvt P @# EX block=1",
+                                        "enq P EX name=A block=#",
+                                        "enq P EX block=1 name=lock#",
+                                        "enq P EX name=A#b block=1 ast=1",
+                                        "enq P#P EX name=A block=1"};
+    int wrong = 0;
+    start(1);
+    for (size_t at = 0; at < sizeof forms / sizeof *forms; at++) {
+        int count = known_of(forms[at]);
+        if (count < WANTED)
+            printf("%d of %d lines %s are known\n", count, LINES, forms[at]);
+        wrong += count < WANTED;
+    }
+    dispatcher_close(dispatcher);
+    if (place_by(1) == place_by(2)) {
+        puts("another key gives a line the same place");
+        wrong++;
+    }
+    return wrong != 0;
+}
