@@ -92,7 +92,7 @@ bool set_words(struct config *config, char *const *words, size_t count) {
     uint32_t *limit = limit_of(config, words[0]);
     if (limit != NULL)
         return number_of(words[1], UINT32_MAX, limit) && config->limits.lines != 0 && config->chunk != 0
-               && config->chunk <= MOST_CHUNK && config->limits.ids >= FEWEST_IDS;
+               && config->chunk <= MOST_CHUNK && config->limits.ids >= FEWEST_IDS && config->tcp_group <= VLM_MAX_GROUP;
     if (strcmp(words[0], "socket") == 0)
         return snprintf(config->socket, PATH, "%s", words[1]) < PATH;
     char *text = text_of(config, words[0]);

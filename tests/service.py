@@ -563,7 +563,8 @@ def configured(_program):
     yield from difference((daemon.wait(20), [it.name for it in made.iterdir()]), (0, ["socket.state"]))
     with Daemon("lines 5", log="/dev/full") as daemon, daemon.client().begin("P") as client:
         for setting in ("locks 1", "locks 0x", "lines 0", "identifications 99", "frob 1", "chunk 1048577", "chunk 0",
-                        "network open", "etcd", "etcd " + 300 * "x", f"#{4094 * 'x'}locks 9", "#\0"):
+                        "network open", "etcd", "etcd " + 300 * "x", f"#{4094 * 'x'}locks 9", "#\0",
+                        "tcp-group 65536", 257 * "group root 1\n"):
             daemon.config.write_text(f"mode 666\n{setting}\n")
             daemon.run.send_signal(signal.SIGHUP)
             time.sleep(0.2)
