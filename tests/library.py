@@ -121,7 +121,11 @@ def staged_prefix():
 
 
 def staged(_program):
-    """An installation for packagers goes into the folder DESTDIR. It lists its files, so that it can be taken away."""
+    """An installation for packagers goes into the folder DESTDIR. It lists its files, and those that an earlier version
+    has left, so that it can be taken away."""
+    (staged_prefix() / "share" / "vlm").mkdir(parents=True)
+    (staged_prefix() / "share" / "vlm" / "earlier").touch()
+    (staged_prefix() / "share" / "vlm" / "files").write_text("bin/vlm\nshare/vlm/earlier\nshare/vlm/gone\n")
     yield from ran(TOP / "vlm", "install", "/usr", seconds=INSTALL_SECONDS,
                    env={**os.environ, "DESTDIR": str(staged_prefix().parent)})
     there = staged_prefix()

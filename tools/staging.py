@@ -12,6 +12,8 @@ from project import TOP, UNANSWERED, VERSION, fail, say
 from proof_record import record_text
 
 DOCUMENTS = "share/doc/vlm"
+# The list of all files.
+FILES = "share/vlm/files"
 # Each after those that it is in.
 FOLDERS = ("bin", "include", "include/vlm-vms", "lib", "lib/pkgconfig", "lib/cmake", "lib/cmake/vlm", "libexec",
            "libexec/vlm", "share", "share/bash-completion", "share/bash-completion/completions", "share/doc", DOCUMENTS,
@@ -79,7 +81,7 @@ def make_files(made, program, archive, version=VERSION):
         shutil.copy(file, made / folder)
     write_manual_pages(made / "share" / "man" / "man3", [it for it in HEADERS if it.suffix == ".h"], version)
     (made / "share" / "vlm" / "proved").write_text(record_text(program, archive, version))
-    listed = made / "share" / "vlm" / "files"
+    listed = made / FILES
     listed.touch()
     listed.write_text("".join(f"{name}\n" for name in names_in(made)))
     set_modes(made)
