@@ -69,25 +69,30 @@ static int find_cycle(struct waits *waits, uint32_t victim) {
     return NOWHERE;
 }
 
-static void log_wait(const struct dispatcher *dispatcher, const struct wait *wait, const char *what) {
-    const struct session *session = wait->process->session;
+static void log_wait(const struct dispatcher *dispatcher, const struct process *process, uint32_t lkid,
+                     const char *what) {
+    const struct session *session = process->session;
     if (session == NULL)
         return;
     say(dispatcher, "deadlock: %s: request for lock %" PRIu64 " of session %016" PRIx64 ", pid %" PRIu32, what,
-        handle_of(dispatcher, wait->lkid), session->name, session->rights.pid);
+        handle_of(dispatcher, lkid), session->name, session->rights.pid);
+}
+
+/* (its record is there until it is told of its end) */
+static void log_victim(const struct dispatcher *dispatcher, uint32_t lkid) {
+    for (uint32_t at = dispatcher->first_waiting; at != NOBODY; at = dispatcher->requests[at].next)
+        if (dispatcher->requests[at].lkid == lkid)
+            log_wait(dispatcher, dispatcher->requests[at].process, lkid, "the victim");
 }
 
 static void log_cycle(const struct dispatcher *dispatcher, struct waits *waits, uint32_t lkid) {
     uint32_t victim = 0;
     while (victim < waits->count && waits->all[victim].lkid != lkid)
         victim++;
-    if (victim == waits->count) {
-        say(dispatcher, "deadlock: the victim is the request for lock %" PRIu64, handle_of(dispatcher, lkid));
+    if (victim == waits->count)
         return;
-    }
-    log_wait(dispatcher, &waits->all[victim], "the victim");
     for (int at = find_cycle(waits, victim); at != NOWHERE && at != (int)victim; at = waits->all[at].before)
-        log_wait(dispatcher, &waits->all[at], "in its circle");
+        log_wait(dispatcher, waits->all[at].process, waits->all[at].lkid, "in its circle");
 }
 
 /* Searches for deadlocks until there is none. Returns whether there was one. */
@@ -102,6 +107,7 @@ bool search(struct dispatcher *dispatcher) {
         if (vlm_search(&dispatcher->manager, 1, &victim) != VLM_NORMAL || victim == 0)
             break;
         dispatcher->counts.victims++;
+        log_victim(dispatcher, victim);
         log_cycle(dispatcher, &waits, victim);
         tell(dispatcher);
     }

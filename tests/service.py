@@ -2,6 +2,7 @@
 limits, and at the end of its IDs. The dispatcher alone gets mutated lines under sanitizers. Most tests run
 a daemon that is compiled with sanitizers. Without the header of libuv all are left out."""
 
+import itertools
 import os
 import random
 import re
@@ -755,6 +756,20 @@ def deadlocked(_program):
         yield from difference(daemon.metric("deadlock_victims_total"), 1)
 
 
+def deadlocked_among_many(_program):
+    """The log names the victim also where too many requests wait for the cycle to be found."""
+    with Daemon("search 200") as daemon, daemon.client().begin("R") as many, \
+            daemon.client().begin("P") as one, daemon.client().begin("Q") as other:
+        many.ask("declare S")
+        for number, process in itertools.product(range(65), "RS"):
+            many.ask(f"enq {process} EX name=C{number} block=1")
+        circle(one, other)
+        other.line()
+        told = re.findall("deadlock: (.*)", daemon.log.read_text())
+        yield from difference([re.sub(" of session [0-9a-f]{16}, ", " of session S, ", it) for it in told],
+                              [f"the victim: request for lock 134 of session S, pid {os.getpid()}"])
+
+
 # The end of IDs.
 
 def changed(_program):
@@ -934,7 +949,8 @@ BEHAVIOURS = {"a daemon without a log": without_log,
               "sessions that are resumed": resumed, "repeated steps": repeated, "processes of another session": hidden,
               "a daemon that ends": restarted, "a second daemon": one_daemon, "what is in the way": in_the_way,
               "configurations": configured, "a configuration that is read again": configured_again,
-              "a daemon of systemd": under_systemd, "a deadlock": deadlocked, "no searches": not_searched,
+              "a daemon of systemd": under_systemd, "a deadlock": deadlocked,
+              "a deadlock among many requests": deadlocked_among_many, "no searches": not_searched,
               "a daemon that stays awake": awake,
               "a change of managers": changed, "no identifications left": drained, "10,000 idle connections": idle,
               "a storm of clients": stormy, "mutated lines": mutated,
