@@ -116,8 +116,10 @@ def statuses(_program):
 
 
 def values(_program):
-    """The value block goes from command to command, and is not told if it is invalid."""
+    """The value block goes from command to command while somebody has the lock, and is not told if it is invalid."""
     with Daemon() as daemon, daemon.client().begin("P") as client:
+        yield from difference(run(daemon, "lock", "--value", VALUE, "A", "true"), (0, ""))
+        yield from difference(run(daemon, "lock", "A", "sh", "-c", "echo $VLM_VALUE"), (0, 32 * "0" + "\n"))
         client.ask("enq P NL name=A block=1")
         yield from difference(run(daemon, "lock", "--value", VALUE, "A", "true"), (0, ""))
         yield from difference(run(daemon, "lock", "-m", "PR", "A", "sh", "-c", "echo $VLM_VALUE"), (0, VALUE + "\n"))
