@@ -361,7 +361,8 @@ static bool read_words(int count, char **words) {
         is_right = set_socket(named.socket != NULL ? named.socket : usual_socket);
     is_right = is_right && set_named("etcd", named.etcd) && set_named("prefix", named.prefix)
                && set_named("listen", named.listen);
-    return is_right && (vlmd.config.etcd[0] != 0 || vlmd.config.listen[0] == 0);
+    bool is_replica = vlmd.config.etcd[0] != 0, has_more = vlmd.config.listen[0] != 0 || named.prefix != NULL;
+    return is_right && (is_replica || !has_more);
 }
 
 /* Takes all descriptors that there may be. Where they are too few for the loop, libuv would abort the daemon. */

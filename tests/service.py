@@ -540,7 +540,8 @@ def configured(_program):
     holds up nobody."""
     replica = ["-s", f"{ROOM().name}/replica", "--etcd", "127.0.0.1:1"]
     for words, status in ((["-x"], 2), (["-c", "/nowhere"], 2), (["here"], 2), (["-s", "/nowhere/to/socket"], 4),
-                          (["-s", 120 * "x"], 2), (["--listen", "127.0.0.1:0"], 2), (["--etcd", 300 * "x"], 2),
+                          (["-s", 120 * "x"], 2), (["--listen", "127.0.0.1:0"], 2), (["--prefix", "x"], 2),
+                          (["--etcd", 300 * "x"], 2),
                           (["-s", ""], 2), (["-c", "/", "-s", f"{ROOM().name}/unread"], 2),
                           *(([*replica[:3], it], 2) for it in ("127.0.0.1", "a:x", ":1", "a:1,", "http://a:1")),
                           ([*replica, "--listen", "127.0.0.1"], 4), ([*replica, "--listen", "0.0.0.0:0"], 4)):
