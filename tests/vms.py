@@ -21,7 +21,7 @@ import service_tls
 import tls_keys
 import vms_scripts
 from daemons import PLAIN, SECONDS, Daemon
-from harness import ROOM, TOP, Once, Test, difference
+from harness import PLAIN_ROOM, ROOM, TOP, Once, Test, difference
 from proxies import Proxy, addresses
 
 HERE = Path(__file__).resolve().parent / "vms"
@@ -387,7 +387,10 @@ def page(_program):
 def by_page(_program):
     """The example of docs/VMS.md is compiled and run as the page says, here without a vlmd."""
     [lines] = re.findall(r"```sh\n(export .*?)```", (TOP / "docs" / "VMS.md").read_text(), re.S)
-    lines = lines.replace("PREFIX", shlex.quote(str(library.prefix()))).replace("=/run/vlm/lock.sock", "=")
+    # (the page's words are for a PREFIX without blanks)
+    linked = Path(PLAIN_ROOM().name) / "for-vms"
+    linked.symlink_to(library.prefix())
+    lines = lines.replace("PREFIX", str(linked)).replace("=/run/vlm/lock.sock", "=")
     folder = tempfile.mkdtemp(dir=ROOM().name)
     shutil.copy(TOP / "vms" / "examples" / "counter.c", folder)
     done = subprocess.run(["sh", "-e", "-c", lines], cwd=folder, capture_output=True, text=True, timeout=SECONDS)
