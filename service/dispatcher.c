@@ -26,7 +26,6 @@ struct dispatcher *dispatcher_open(const struct limits *limits, uint32_t epoch, 
     dispatcher->free_request = dispatcher->first_waiting = dispatcher->last_waiting = NOBODY;
     dispatcher->ready_end = &dispatcher->ready;
     dispatcher->shown.size = sizeof(vlm_line);
-    dispatcher->text.size = sizeof(vlm_text);
     return dispatcher;
 }
 

@@ -51,7 +51,7 @@ struct reader {
     bool is_short;
 };
 
-/* Inline, since each entry has numbers, and one of a known length is a single load. */
+/* Inline and unrolled, since each entry has numbers, and one of a known length is a single load then. */
 static inline uint64_t reader_number(struct reader *reader, size_t len) {
     uint64_t number = 0;
     if (reader->left < len) {
@@ -59,6 +59,7 @@ static inline uint64_t reader_number(struct reader *reader, size_t len) {
         reader->left = 0;
         return 0;
     }
+#pragma GCC unroll 8
     for (size_t at = 0; at < len; at++)
         number |= (uint64_t)reader->at[at] << (8 * at);
     reader->at += len;

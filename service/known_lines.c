@@ -1,5 +1,5 @@
 /* Lines that were read lately. Programs repeat their lines: they lock the same resources again and again. What
- * vlm_read_line makes of a line depends on its bytes alone, so it is kept until another line comes to the same place.
+ * vlm_read_line makes of a line depends on its bytes alone, so it is kept until two other lines come to the same place.
  * Each UIC group has lines of its own, and places are chosen by a random key: nobody can tell by the time of an answer
  * which names another group uses. */
 #include "parts.h"
@@ -19,7 +19,7 @@ static uint64_t mix(uint64_t hash, const char *bytes) {
 }
 
 /* The place of a line, or null for one that is too short or too long to be kept. */
-static struct known_line *place_of(const struct client *client, struct word text) {
+static struct known_place *place_of(const struct client *client, struct word text) {
     uint64_t hash;
     if (text.len < PART || text.len > KNOWN_BYTES)
         return NULL;
@@ -32,25 +32,35 @@ static struct known_line *place_of(const struct client *client, struct word text
     return &client->dispatcher->known[hash >> REST_BITS];
 }
 
-const vlm_line *known_line(const struct client *client, struct word text) {
-    const struct known_line *place = place_of(client, text);
-    bool is_known = place != NULL && place->len == text.len && place->group == client->rights.group
-                    && memcmp(place->bytes, text.bytes, text.len) == 0;
-    return is_known ? &place->line : NULL;
+static bool is_same(const struct known_line *line, const struct client *client, struct word text) {
+    return line->len == text.len && line->group == client->rights.group
+           && memcmp(line->bytes, text.bytes, text.len) == 0;
 }
 
-const vlm_line *read_line(struct dispatcher *dispatcher, struct word text) {
-    vlm_line *line = &dispatcher->unknown;
-    line->size = sizeof *line;
-    return vlm_read_line((const uint8_t *)text.bytes, text.len, line) == VLM_NORMAL ? line : NULL;
+struct heard *known_line(const struct client *client, struct word text) {
+    struct known_place *place = place_of(client, text);
+    for (size_t at = 0; place != NULL && at < KNOWN_WAYS; at++)
+        if (is_same(&place->lines[at], client, text))
+            return &place->lines[at].heard;
+    return NULL;
+}
+
+struct heard *read_line(struct dispatcher *dispatcher, struct word text) {
+    struct heard *heard = &dispatcher->unknown;
+    heard->line.size = sizeof heard->line;
+    heard->answer.len = 0;
+    return vlm_read_line((const uint8_t *)text.bytes, text.len, &heard->line) == VLM_NORMAL ? heard : NULL;
 }
 
 void keep_line(const struct client *client, struct word text, const vlm_line *line) {
-    struct known_line *place = place_of(client, text);
+    struct known_place *place = place_of(client, text);
     if (place == NULL)
         return;
-    memcpy(place->bytes, text.bytes, text.len);
-    place->len = (uint32_t)text.len;
-    place->group = client->rights.group;
-    place->line = *line;
+    struct known_line *kept = &place->lines[place->next];
+    place->next = (place->next + 1) % KNOWN_WAYS;
+    memcpy(kept->bytes, text.bytes, text.len);
+    kept->len = (uint32_t)text.len;
+    kept->group = client->rights.group;
+    kept->heard.line = *line;
+    kept->heard.answer = (vlm_text){.size = sizeof(vlm_text)};
 }

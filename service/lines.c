@@ -104,8 +104,8 @@ enum line_kind dispatcher_kind(const char *line, size_t len) {
 
 /* A `declare` line of a client as a script has it: without its words for quota and blocks the usual ones, on some node,
  * and with the rights of the connection. */
-static const vlm_line *as_declaration(const struct client *client, const struct word *words, size_t count) {
-    vlm_line *refused = &client->dispatcher->unknown;
+static struct heard *as_declaration(const struct client *client, const struct word *words, size_t count) {
+    struct heard *refused = &client->dispatcher->unknown;
     char text[LINE];
     int len = 0;
     bool has_quota = false, has_blocks = false, is_refused = count > DECLARE_WORDS;
@@ -119,8 +119,8 @@ static const vlm_line *as_declaration(const struct client *client, const struct 
         len += snprintf(text + len, sizeof text - (size_t)len, "%.*s ", shown, words[at].bytes);
     }
     if (is_refused || memchr(client->line, 0, client->line_len) != NULL) {
-        refused->kind = VLM_LINE_EMPTY;
-        refused->fault = VLM_FAULT_WRONG_WORD;
+        refused->line.kind = VLM_LINE_EMPTY;
+        refused->line.fault = VLM_FAULT_WRONG_WORD;
         return refused;
     }
     len += snprintf(text + len, sizeof text - (size_t)len, "node=1 group=%" PRIu32, client->rights.group);
@@ -152,15 +152,15 @@ static bool find_handle(struct word command, struct word rest, struct word *hand
 }
 
 /* Reads the client's line, in which a lock may be named by its handle. Right lines without one are kept. */
-static const vlm_line *read_with_handle(const struct client *client, struct word command, struct word rest) {
+static struct heard *read_with_handle(const struct client *client, struct word command, struct word rest) {
     struct dispatcher *dispatcher = client->dispatcher;
     struct word whole = {client->line, client->line_len}, handle;
     uint64_t number;
     if (!find_handle(command, rest, &handle) || !decimal(handle, UINT64_MAX, &number)) {
-        const vlm_line *line = read_line(dispatcher, whole);
-        if (line != NULL && line->fault == 0)
-            keep_line(client, whole, line);
-        return line;
+        struct heard *heard = read_line(dispatcher, whole);
+        if (heard != NULL && heard->line.fault == 0)
+            keep_line(client, whole, &heard->line);
+        return heard;
     }
     char text[LINE + NUMBER_DIGITS], digits[NUMBER_DIGITS];
     size_t count = write_number(digits + NUMBER_DIGITS, lkid_of(dispatcher, number));
@@ -176,8 +176,9 @@ static const vlm_line *read_with_handle(const struct client *client, struct word
 static const char *const faults[] = {
     "", "too long\n", "unknown command\n", "wrong word\n", "number out of range\n", "unknown name\n", "name used\n"};
 
-static void run_read_line(struct client *client, const vlm_line *line) {
-    client->dispatcher->line = line;
+static void run_read_line(struct client *client, struct heard *heard) {
+    const vlm_line *line = &heard->line;
+    client->dispatcher->heard = heard;
     bool is_reading = line->kind == VLM_LINE_BLOCK || line->kind == VLM_LINE_TAIL;
     if (line->kind == VLM_LINE_EMPTY)
         return;
@@ -219,16 +220,16 @@ static bool has_to_wait(struct client *client, bool is_request) {
 static bool is_frequent(struct word word) { return word.len == STEP_LETTERS && word.bytes[0] != 'w'; }
 
 /* Runs the client's line if it is one of a session. Else reads it, if it can be read. */
-static bool run_or_read(struct client *client, struct word command, struct word rest, const vlm_line **line) {
+static bool run_or_read(struct client *client, struct word command, struct word rest, struct heard **heard) {
     struct word words[MOST_WORDS];
     if (is_frequent(command)) {
-        *line = read_with_handle(client, command, rest);
+        *heard = read_with_handle(client, command, rest);
         return false;
     }
     size_t count = split(client->line, client->line_len, words, MOST_WORDS);
     if (run_session_line(client, words, count))
         return true;
-    *line =
+    *heard =
         is_word(command, "declare") ? as_declaration(client, words, count) : read_with_handle(client, command, rest);
     return false;
 }
@@ -236,15 +237,15 @@ static bool run_or_read(struct client *client, struct word command, struct word 
 /* Runs a line that is not known. Returns false, and has done nothing, if the line has to wait. */
 static bool run_unknown(struct client *client) {
     struct word rest = {client->line, client->line_len}, command = next_word(&rest);
-    const vlm_line *line;
+    struct heard *heard;
     if (has_to_wait(client, is_word(command, "enq")))
         return false;
-    if (command.len == 0 || run_or_read(client, command, rest, &line))
+    if (command.len == 0 || run_or_read(client, command, rest, &heard))
         return true;
-    if (line == NULL || line->fault != 0)
-        answer_text(client, faults[line != NULL ? line->fault : VLM_FAULT_WRONG_WORD]);
+    if (heard == NULL || heard->line.fault != 0)
+        answer_text(client, faults[heard != NULL ? heard->line.fault : VLM_FAULT_WRONG_WORD]);
     else
-        run_read_line(client, line);
+        run_read_line(client, heard);
     return true;
 }
 
@@ -257,11 +258,11 @@ bool run_line(struct client *client, const char *bytes, size_t len) {
     }
     client->line = bytes;
     client->line_len = len;
-    const vlm_line *line = known_line(client, (struct word){bytes, len});
-    if (line == NULL)
+    struct heard *heard = known_line(client, (struct word){bytes, len});
+    if (heard == NULL)
         return run_unknown(client);
-    if (has_to_wait(client, line->kind == VLM_LINE_ENQ))
+    if (has_to_wait(client, heard->line.kind == VLM_LINE_ENQ))
         return false;
-    run_read_line(client, line);
+    run_read_line(client, heard);
     return true;
 }

@@ -47,8 +47,9 @@ enum {
     KEPT_ROOM = 256, /* of a client's output between two answers */
     NUMBER_DIGITS = 20,
     PAIR = 512, /* bytes of an AST and its block line */
-    KNOWN_BITS = 10,
-    KNOWN_LINES = 1 << KNOWN_BITS,
+    KNOWN_BITS = 9,
+    KNOWN_PLACES = 1 << KNOWN_BITS,
+    KNOWN_WAYS = 2,   /* lines at a place */
     KNOWN_BYTES = 120 /* of a known line at most */
 };
 
@@ -192,11 +193,25 @@ struct token {
     uint64_t number;
 };
 
-/* A line that a client of a group has sent, and what was read of it. A place without a line has no bytes. */
+/* A line as it was read, and the last answer to it, if that has bytes. */
+struct heard {
+    vlm_line line;
+    uint32_t status; /* that the answer tells */
+    bool has_number; /* the answer ends with the number of a lock or a process, which `answer` lacks */
+    vlm_text answer;
+};
+
+/* A line that a client of a group has sent. One without bytes is none. */
 struct known_line {
     uint32_t len, group;
     char bytes[KNOWN_BYTES];
-    vlm_line line;
+    struct heard heard;
+};
+
+/* The last lines that have come to one place, and which of them goes when another one comes. */
+struct known_place {
+    uint32_t next;
+    struct known_line lines[KNOWN_WAYS];
 };
 
 struct counts {
@@ -234,13 +249,12 @@ struct dispatcher {
     uint64_t token;       /* the last one that was taken */
     struct token *tokens; /* hashed by their locks */
     size_t token_room, token_count;
-    const vlm_line *line; /* the line that is run */
-    vlm_text text;        /* the answer to it */
-    vlm_line unknown;     /* a line that was not known */
+    struct heard *heard;  /* the line that is run */
+    struct heard unknown; /* a line that was not known */
     vlm_line shown;       /* names a process whose AST or block is printed */
     struct step *spare;   /* by which the step of a numbered line is surely kept, or null */
     struct counts counts;
-    struct known_line known[KNOWN_LINES];
+    struct known_place known[KNOWN_PLACES];
 };
 
 /* A word of a line. */
@@ -266,8 +280,8 @@ bool decimal(struct word word, uint64_t most, uint64_t *number);
 
 /* known_lines.c. known_line: what was read of a client's line before, or null. read_line: what a line is, or null if it
  * has too many bytes. keep_line: keeps what was read of a client's line. All without the numbers of lines. */
-const vlm_line *known_line(const struct client *client, struct word text);
-const vlm_line *read_line(struct dispatcher *dispatcher, struct word text);
+struct heard *known_line(const struct client *client, struct word text);
+struct heard *read_line(struct dispatcher *dispatcher, struct word text);
 void keep_line(const struct client *client, struct word text, const vlm_line *line);
 
 /* repeats.c */
@@ -301,6 +315,7 @@ bool run_lock_line(struct client *client, const struct word *words, size_t count
 /* tokens.c */
 bool reserve_token(struct dispatcher *dispatcher);
 void note_lock(struct dispatcher *dispatcher, uint32_t lkid);
+void give_token(struct dispatcher *dispatcher, struct request *record);
 void take_token(struct dispatcher *dispatcher, struct request *record);
 uint64_t token_of(const struct dispatcher *dispatcher, uint32_t lkid);
 void forget_token(struct dispatcher *dispatcher, uint32_t lkid);
@@ -321,7 +336,8 @@ void set_bit(uint8_t *bits, uint32_t number);
 /* requests.c */
 uint32_t new_request(struct process *process, vlm_request *request);
 void drop_request(struct dispatcher *dispatcher, uint32_t place);
-void accept_request(struct dispatcher *dispatcher, uint32_t place, uint32_t lkid, bool is_new);
+void accept_new(struct dispatcher *dispatcher, uint32_t place, uint32_t lkid, bool is_granted);
+void accept_conversion(struct dispatcher *dispatcher, uint32_t place, uint32_t lkid);
 void wait_if_queued(struct dispatcher *dispatcher, uint32_t place, uint32_t lkid);
 void tell(struct dispatcher *dispatcher);
 

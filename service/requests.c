@@ -22,8 +22,8 @@ static bool grow(struct dispatcher *dispatcher) {
     return true;
 }
 
-/* A record for a request of a process. The request gets the record's place as its completion routine. NOBODY without
- * memory. */
+/* A record for a request of a process. The request gets the record's place as its completion routine. If its client
+ * wants no AST, a grant at once needs none either: the answer tells it. NOBODY without memory. */
 uint32_t new_request(struct process *process, vlm_request *request) {
     struct dispatcher *dispatcher = process->session->dispatcher;
     if (dispatcher->free_request == NOBODY && !grow(dispatcher))
@@ -39,6 +39,7 @@ uint32_t new_request(struct process *process, vlm_request *request) {
                                .since = dispatcher->now,
                                .previous = NOBODY,
                                .next = NOBODY};
+    request->flags |= record->has_ast ? 0 : VLM_SYNCSTS;
     request->has_ast = 1;
     request->ast = place;
     return place;
@@ -49,20 +50,31 @@ void drop_request(struct dispatcher *dispatcher, uint32_t place) {
     dispatcher->free_request = place;
 }
 
-/* The manager has accepted a request: from here on its status block is its own. If it was granted at once, it takes its
- * token before those that its step has granted as well. */
-void accept_request(struct dispatcher *dispatcher, uint32_t place, uint32_t lkid, bool is_new) {
+/* The manager has accepted a request: from here on its status block is its own. */
+static struct request *accept(struct dispatcher *dispatcher, uint32_t place, uint32_t lkid) {
     struct request *record = &dispatcher->requests[place];
     record->lkid = lkid;
     record->process->uses[record->block] = (struct block_use){dispatcher->now, lkid};
     set_bit(record->process->named, record->block);
+    return record;
+}
+
+/* The manager has made a lock. A grant without a completion AST takes its token here, and one with it when the AST is
+ * taken. The step of a new lock grants no other, so tokens keep their order. */
+void accept_new(struct dispatcher *dispatcher, uint32_t place, uint32_t lkid, bool is_granted) {
+    struct request *record = accept(dispatcher, place, lkid);
     if (lkid > dispatcher->last_lkid)
         dispatcher->last_lkid = lkid;
-    if (is_new) {
-        count_lock(record->process, true);
-        note_lock(dispatcher, lkid);
-    }
-    take_token(dispatcher, record);
+    count_lock(record->process, true);
+    note_lock(dispatcher, lkid);
+    if (is_granted)
+        give_token(dispatcher, record);
+}
+
+/* The manager has accepted a conversion. If it was granted at once, it takes its token before those that its step has
+ * granted as well. */
+void accept_conversion(struct dispatcher *dispatcher, uint32_t place, uint32_t lkid) {
+    take_token(dispatcher, accept(dispatcher, place, lkid));
 }
 
 /* Once all ASTs of its step were taken, a request that has its record still is queued. */
@@ -143,7 +155,10 @@ static void complete(struct dispatcher *dispatcher, vlm_ast *ast) {
     struct request *record = &dispatcher->requests[place];
     struct process *process = record->process;
     wait_no_more(dispatcher, record);
-    take_token(dispatcher, record);
+    if (record->user != NULL)
+        take_token(dispatcher, record);
+    else if (!record->has_token)
+        give_token(dispatcher, record);
     process->uses[record->block].since = dispatcher->now;
     if (process->session != NULL) {
         /* (the lock of a request that waited may be gone) */

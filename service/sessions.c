@@ -70,7 +70,8 @@ static bool is_label(struct word word) {
 /* `open [seconds=N] [command=WORD]` */
 static void run_open(struct client *client, const struct word *words, size_t count) {
     struct word rest, label = {"", 0};
-    uint64_t seconds = client->dispatcher->is_replica ? USUAL_SECONDS : 0;
+    bool is_replica = client->dispatcher->is_replica;
+    uint64_t seconds = is_replica ? USUAL_SECONDS : 0, fewest = 0;
     if (count > MOST_WORDS) {
         answer_text(client, wrong_word);
         return;
@@ -81,10 +82,12 @@ static void run_open(struct client *client, const struct word *words, size_t cou
             answer_text(client, wrong_word);
             return;
         }
+        if (is_seconds)
+            fewest = is_replica ? FEWEST_SECONDS : 1;
     }
     if (label.len != 0 && !is_label(label)) {
         answer_text(client, wrong_word);
-    } else if (seconds > MOST_SECONDS || (client->dispatcher->is_replica && seconds < FEWEST_SECONDS)) {
+    } else if (seconds > MOST_SECONDS || seconds < fewest) {
         answer_text(client, "number out of range\n");
     } else if (client->session != NULL) {
         answer_text(client, "session open\n");

@@ -5,7 +5,7 @@
 #include <stdlib.h>
 #include <string.h>
 
-enum { FIRST_NAMES = 4, LOCK_WORD = 3, PROCESS_WORD = 2 };
+enum { FIRST_NAMES = 4 };
 
 struct binding *find_binding(struct session *session, const uint8_t *name) {
     for (uint32_t at = 0; at < session->binding_count; at++)
@@ -14,18 +14,35 @@ struct binding *find_binding(struct session *session, const uint8_t *name) {
     return NULL;
 }
 
-/* Prints and sends the answer to the step of the line that is run. It names the handle of a lock, the number of a
- * process, or nothing: 0. Those of more than 32 bits are none of the script's. */
+/* Prints the answer to a line, without the number of a lock or a process at its end: 1 is printed there, and cut off.
+ * The same line mostly gets the same answer, so the last one is kept. */
+static const vlm_text *print_answer(struct heard *heard, uint32_t status, bool has_number) {
+    vlm_text *answer = &heard->answer;
+    if (answer->len != 0 && heard->status == status && heard->has_number == has_number)
+        return answer;
+    heard->status = status;
+    heard->has_number = has_number;
+    *answer = (vlm_text){.size = sizeof *answer};
+    if (vlm_print_answer(&heard->line, status, has_number ? 1 : 0, answer) == VLM_NORMAL && has_number)
+        answer->len -= strlen("1\n");
+    return answer;
+}
+
+/* Sends the answer to the step of the line that is run. It names the handle of a lock, the number of a process, or
+ * nothing: 0. */
 void tell_answer(struct client *client, uint32_t status, uint64_t given) {
-    const vlm_line *line = client->dispatcher->line;
-    vlm_text *text = &client->dispatcher->text;
-    bool is_long = given > UINT32_MAX;
     if (client->is_detached)
         return;
-    vlm_print_answer(line, status, is_long ? UINT32_MAX : (uint32_t)given, text);
-    if (is_long)
-        replace_word(text, line->kind == VLM_LINE_DECLARE ? PROCESS_WORD : LOCK_WORD, given);
-    answer(client, text->bytes, text->len);
+    const vlm_text *printed = print_answer(client->dispatcher->heard, status, given != 0);
+    char text[sizeof printed->bytes + NUMBER_DIGITS], digits[NUMBER_DIGITS];
+    size_t len = printed->len, count = given != 0 ? write_number(digits + NUMBER_DIGITS, given) : 0;
+    memcpy(text, printed->bytes, len);
+    if (given != 0) {
+        memcpy(text + len, digits + NUMBER_DIGITS - count, count);
+        len += count;
+        text[len++] = '\n';
+    }
+    answer(client, text, len);
 }
 
 /* A step was made or refused: it is kept, and its client is told. */
@@ -108,6 +125,11 @@ static bool is_over_quota(const struct process *process) {
     return process->locks >= process->quota || session->user->locks >= session->dispatcher->limits.locks;
 }
 
+/* What a client is told: SYNCH only if its request was to answer that. */
+static uint32_t told_status(const vlm_line *line, uint32_t status) {
+    return status == VLM_SYNCH && (line->request.flags & VLM_SYNCSTS) == 0 ? VLM_NORMAL : status;
+}
+
 /* Asks for a new lock or converts one. */
 static void ask(struct client *client, const vlm_line *line, struct process *process) {
     struct dispatcher *dispatcher = client->dispatcher;
@@ -129,11 +151,14 @@ static void ask(struct client *client, const vlm_line *line, struct process *pro
         status = vlm_enq(&dispatcher->manager, &request, line->resource, line->resource_len, &lkid);
     else if (place != NOBODY)
         status = vlm_convert(&dispatcher->manager, &request, &lkid);
-    if (status == VLM_NORMAL || status == VLM_SYNCH)
-        accept_request(dispatcher, place, lkid, is_new);
+    bool is_accepted = status == VLM_NORMAL || status == VLM_SYNCH;
+    if (is_accepted && is_new)
+        accept_new(dispatcher, place, lkid, status == VLM_SYNCH);
+    else if (is_accepted)
+        accept_conversion(dispatcher, place, lkid);
     if (place != NOBODY && status != VLM_NORMAL)
         drop_request(dispatcher, place);
-    answer_step(client, status, handle_of(dispatcher, lkid));
+    answer_step(client, told_status(line, status), handle_of(dispatcher, lkid));
     tell(dispatcher);
     if (status == VLM_NORMAL)
         wait_if_queued(dispatcher, place, lkid);

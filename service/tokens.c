@@ -93,19 +93,21 @@ bool reserve_token(struct dispatcher *dispatcher) {
 /* A new lock, for which a place was reserved. It has no token until its request is granted. */
 void note_lock(struct dispatcher *dispatcher, uint32_t lkid) { add(dispatcher, (struct token){.lkid = lkid}); }
 
-/* Gives a lock the next token once its request has ended well, and forgets one that is gone. A conversion that waits
+/* Gives a lock the next token: its request has ended well. */
+void give_token(struct dispatcher *dispatcher, struct request *record) {
+    record->has_token = true;
+    place_of(dispatcher, record->lkid)->number = ++dispatcher->token;
+}
+
+/* Gives a lock the next token if its request has ended well, and forgets a lock that is gone. A conversion that waits
  * wants another mode than its lock holds, so the held mode tells how it ended. A status block may tell of another
  * request that the same step has ended. */
 void take_token(struct dispatcher *dispatcher, struct request *record) {
     vlm_lock lock = {.size = sizeof lock};
-    if (record->has_token)
-        return;
-    if (vlm_find_lock(&dispatcher->manager, record->lkid, &lock) != VLM_NORMAL) {
+    if (vlm_find_lock(&dispatcher->manager, record->lkid, &lock) != VLM_NORMAL)
         forget_token(dispatcher, record->lkid);
-    } else if (lock.queue == VLM_GRANTED && lock.held == record->mode) {
-        record->has_token = true;
-        place_of(dispatcher, record->lkid)->number = ++dispatcher->token;
-    }
+    else if (lock.queue == VLM_GRANTED && lock.held == record->mode)
+        give_token(dispatcher, record);
 }
 
 /* The token of a lock of the manager; 0 if it was not granted yet. */

@@ -94,12 +94,15 @@ static bool is_awake(void) {
     if (vlmd.config.awake == 0 || vlmd.replica != NULL)
         return false;
     uint64_t now = uv_hrtime();
-    if (vlmd.has_line)
-        loop.awake_until = now + (uint64_t)vlmd.config.awake * 1000;
-    else
-        sched_yield();
+    bool has_line = vlmd.has_line;
     vlmd.has_line = false;
-    return now < loop.awake_until;
+    if (has_line)
+        loop.awake_until = now + (uint64_t)vlmd.config.awake * 1000;
+    if (now >= loop.awake_until)
+        return false;
+    if (!has_line)
+        sched_yield();
+    return true;
 }
 
 /* After each poll: what is due, the lines that are left, all output, and when to wake. */

@@ -57,8 +57,9 @@ def missing():
 
 TALKS = {
     "no session": [("enq P EX name=A block=1", "no session"), ("alive", "no session"), ("close", "no session")],
-    "sessions": [("open seconds=601", "number out of range"), ("open hours=1", "wrong word"),
-                 ("open command=a\tb", "wrong word"), ("open seconds=1 command=a now", "wrong word"),
+    "sessions": [("open seconds=601", "number out of range"), ("open seconds=0", "number out of range"),
+                 ("open hours=1", "wrong word"), ("open command=a\tb", "wrong word"),
+                 ("open seconds=1 command=a now", "wrong word"),
                  ("resume 0000000000000000 asts=1 now", "wrong word"),
                  ("open", "session 0000000200000001 seconds 0 number 0 asts 0"),
                  ("open", "session open"), ("alive", "alive"), ("declare P", "P: process 65537"),

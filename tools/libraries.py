@@ -26,8 +26,9 @@ VMS_SHOWN = ("sys$*", "lib$*")
 TLS = TOP / "bindings" / "c" / "tls" / "vlm_tls.c"
 TLS_LIBRARY = "libvlm-tls.so.1"
 OPENSSL = ("-lssl", "-lcrypto")
-# The daemon of the service.
+# The daemon of the service, and the words by which its files are compiled as one.
 DAEMON = sorted((TOP / "service").glob("*.c"))
+AS_ONE = ("-flto", "-flto-partition=none")
 # The commands of the service, which hand all other words to the proved program, and its client.
 COMMANDS = sorted((TOP / "service" / "commands").glob("*.c")) + LAYERS["vlm_client"]
 SHARE = ["-shared", "-pthread", "-Wl,-Bsymbolic", "-Wl,-z,defs", "-Wl,-z,now", "-Wl,-z,relro"]
@@ -109,10 +110,19 @@ def tls_words():
     return [TLS, *OPENSSL] if has_openssl() else ["-DVLM_WITHOUT_TLS"]
 
 
+def words_as_one():
+    """The words by which all files of a program are compiled as one, or none if the compiler can't: clang often lacks
+    the plugin of the linker for it."""
+    with tempfile.TemporaryDirectory() as room:
+        made = subprocess.run([*compiler(), *AS_ONE, "-x", "c", "-", "-o", f"{room}/made"],
+                              input="int main(void) { return 0; }\n", capture_output=True, text=True)
+    return AS_ONE if made.returncode == 0 else ()
+
+
 def make_daemon(made, lib):
     """Makes the daemon over the static library in the folder lib."""
-    make(made, *compiler(), "-std=gnu11", "-O2", "-pthread", f"-I{TOP / 'include'}", *DAEMON, lib / "libvlm.a", "-luv",
-         *tls_words(), "-Wl,-z,now", "-Wl,-z,relro", "-o", made)
+    make(made, *compiler(), "-std=gnu11", "-O2", *words_as_one(), "-pthread", f"-I{TOP / 'include'}", *DAEMON,
+         lib / "libvlm.a", "-luv", *tls_words(), "-Wl,-z,now", "-Wl,-z,relro", "-o", made)
 
 
 def make_commands(made):

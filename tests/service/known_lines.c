@@ -5,7 +5,7 @@
 #include <stdio.h>
 #include <string.h>
 
-enum { KEYS = 16, LINES = 100, WANTED = 80, ROOM = 64 };
+enum { KEYS = 16, LINES = 100, WANTED = 95, ROOM = 64 };
 
 static struct dispatcher *dispatcher;
 static struct client *client;
