@@ -14,6 +14,7 @@ from typing import Dict, Iterator, List, Set, Tuple, TypeVar
 
 _Item = TypeVar("_Item")
 
+_MARK = b"vlmlist1"
 _HEAD, _REPLICA, _NUMBERED, _ENTRY = 24, slice(8, 16), slice(8, 24), struct.Struct("<IHH")
 _BEAT, _END, _GONE = 4, 5, 7
 # A batch in a chunk: its revision and its length. A chunk begins with the revision up to which it goes.
@@ -22,6 +23,10 @@ _PLACED, _COVERED = struct.Struct("<QI"), struct.Struct("<Q")
 _MOST_CHUNKS = 16
 # How hard a chunk is compressed: more takes ten times as long, for a fifth less.
 _PRESET = 3
+
+
+class NoChunk(Exception):
+    """A value that no replica has packed."""
 
 
 @dataclass(frozen=True)
@@ -33,6 +38,11 @@ class Batch:
     # The last part of its key; empty in a chunk.
     name: str
     entries: bytes
+
+
+def is_batch(value: bytes) -> bool:
+    """Whether a value begins as all batches do."""
+    return value.startswith(_MARK)
 
 
 def _entries(batch: bytes) -> Iterator[Tuple[int, int, int]]:
@@ -93,9 +103,12 @@ def pack(batches: List[Batch]) -> bytes:
 
 
 def unpack(chunk: bytes) -> Tuple[int, List[Batch]]:
-    """The revision up to which a chunk goes, and its batches."""
-    plain = lzma.decompress(chunk)
-    (covered,) = _COVERED.unpack_from(plain)
+    """The revision up to which a chunk goes, and its batches. Raises NoChunk."""
+    try:
+        plain = lzma.decompress(chunk)
+        (covered,) = _COVERED.unpack_from(plain)
+    except (lzma.LZMAError, struct.error):
+        raise NoChunk from None
     at, batches = _COVERED.size, []
     while at < len(plain):
         revision, length = _PLACED.unpack_from(plain, at)

@@ -27,10 +27,10 @@ os.environ.setdefault("GRPC_VERBOSITY", "NONE")
 import etcd3
 import grpc
 from etcd3 import etcdrpc
-from etcd3.exceptions import (ConnectionFailedError, ConnectionTimeoutError, InternalServerError,
+from etcd3.exceptions import (ConnectionFailedError, ConnectionTimeoutError, Etcd3Exception, InternalServerError,
                               PreconditionFailedError)
 
-from chunks import Batch, ahead, unpack
+from chunks import Batch, NoChunk, ahead, is_batch, unpack
 from members import Place
 
 _T = TypeVar("_T")
@@ -51,13 +51,15 @@ _OPTIONS = [("grpc.max_receive_message_length", 1 << 26), ("grpc.keepalive_time_
 _PAGE, _SHORT_PAGE, _PAGE_SECONDS, _DELETED = 500, 32, 20.0, 100
 _PASSING = {grpc.StatusCode.UNAVAILABLE, grpc.StatusCode.DEADLINE_EXCEEDED, grpc.StatusCode.INTERNAL,
             grpc.StatusCode.RESOURCE_EXHAUSTED, grpc.StatusCode.CANCELLED, grpc.StatusCode.UNKNOWN}
+# What a call raises if all members refuse it.
+REFUSALS = (grpc.RpcError, Etcd3Exception)
 # What all members answer alike. Other refusals may be those of one member, or of a proxy before it.
 _FINAL = {grpc.StatusCode.OUT_OF_RANGE, grpc.StatusCode.INVALID_ARGUMENT}
 
 
 class Broken(Exception):
     """The list is not what it was, so a replica that starts on it may grant what others hold: etcd was restored, its
-    members have lost their disks or are of several clusters, or somebody has deleted keys."""
+    members have lost their disks or are of several clusters, or somebody has deleted keys or written some."""
 
 
 class WrongFiles(Exception):
@@ -104,7 +106,8 @@ def _is_code(failed: Exception, code: grpc.StatusCode) -> bool:
     return isinstance(failed, grpc.RpcError) and failed.code() == code
 
 
-def _reason(failed: Exception) -> str:
+def reason(failed: Exception) -> str:
+    """What etcd says of a call that it has refused or that failed."""
     if not isinstance(failed, grpc.Call):
         return failed.code().name if isinstance(failed, grpc.RpcError) else repr(failed)
     return f"{failed.code().name}: {failed.details()}"
@@ -179,11 +182,11 @@ class EtcdList:
                     refusals += not _is_passing(failed)
                     if not _is_passing(failed) and (not _is_refusal(failed) or refusals == len(self._clients)):
                         raise
-                    reason = _reason(failed)
-                    logging.info("%s: etcd's member %d: %s", kind, at, reason)
+                    said = reason(failed)
+                    logging.info("%s: etcd's member %d: %s", kind, at, said)
                 self.leave(kind, at)
             if not is_told and time.monotonic() - begun > _LONG:
-                logging.warning("%s: no member of etcd answers: %s", kind, reason)
+                logging.warning("%s: no member of etcd answers: %s", kind, said)
                 is_told = True
             time.sleep(_PAUSE)
 
@@ -241,7 +244,10 @@ class EtcdList:
             if found[0].key != key.encode():
                 raise Broken(f"the list lacks chunk {known + 1}")
             known += 1
-            covered, batches = unpack(found[0].value)
+            try:
+                covered, batches = unpack(found[0].value)
+            except NoChunk:
+                raise _foreign(found[0]) from None
             yield Chunk(known, covered, batches)
 
     def batches(self, after: int, revision: int) -> Iterator[Batch]:
@@ -280,7 +286,7 @@ class EtcdList:
                 self._note_way(self._clients.index(client), time.monotonic() - begun)
                 return answer
             except grpc.RpcError as failed:
-                if _is_code(failed, grpc.StatusCode.RESOURCE_EXHAUSTED) and "larger than max" in _reason(failed):
+                if _is_code(failed, grpc.StatusCode.RESOURCE_EXHAUSTED) and "larger than max" in reason(failed):
                     raise TooLong from None
                 raise
 
@@ -316,6 +322,10 @@ class EtcdList:
     def _chunk_key(self, number: int) -> str:
         return f"{self._chunks}{number:08}"
 
+    def spoil(self) -> None:
+        """Puts what is no batch. So no replica goes on or starts on what is left of the list."""
+        self.call("append", lambda client: client.put(self._entries + "deleted", "a part of the list was deleted"))
+
     def drop(self, revision: int, forgotten: int) -> None:
         """Deletes the batches up to a revision, and has etcd forget what was before another revision."""
         keys = [it.key for it in self._range(self._entries, keys_only=True, max_create_revision=revision).kvs]
@@ -331,8 +341,19 @@ class EtcdList:
                 raise
 
 
+def _foreign(pair: Any) -> Broken:
+    return Broken(f"the list has {pair.key.decode(errors='replace')}, which no replica has written")
+
+
 def _batch(pair: Any) -> Batch:
-    return Batch(pair.create_revision, pair.key.decode().rpartition("/")[2], pair.value)
+    """The batch of a key. Raises Broken if no replica has written it."""
+    if not is_batch(pair.value):
+        raise _foreign(pair)
+    return Batch(pair.create_revision, _name(pair), pair.value)
+
+
+def _name(pair: Any) -> str:
+    return str(pair.key.decode(errors="replace")).rpartition("/")[2]
 
 
 class Watch:
@@ -343,6 +364,8 @@ class Watch:
         # The stream of responses, if there is one, and the number of the last one's member.
         self._responses: Any = None
         self._member = 0
+        # The names of the batches that were deleted along with the last ones that came.
+        self.deleted: Set[str] = set()
 
     def next(self) -> List[Batch]:
         """Waits for the next batches. Raises Compacted if etcd has forgotten them, and Ended."""
@@ -350,7 +373,7 @@ class Watch:
             try:
                 response = next(self._opened())
             except (grpc.RpcError, StopIteration) as ended:
-                logging.info("a watch ended: %s", _reason(ended))
+                logging.info("a watch ended: %s", reason(ended))
                 self._responses = None
                 self._store.leave("watch", self._member)
                 time.sleep(_PAUSE)
@@ -366,6 +389,7 @@ class Watch:
                 time.sleep(_PAUSE)
             elif response.events:
                 self._revision = response.events[-1].kv.mod_revision + 1
+                self.deleted = {_name(it.kv) for it in response.events if it.type != it.PUT}
                 return [_batch(it.kv) for it in response.events if it.type == it.PUT]
 
     def _opened(self) -> Any:

@@ -16,6 +16,8 @@ from typing import Any, Callable, Dict, List, Optional, Tuple, Type
 HOST = "127.0.0.1"
 # How long a process may take until it serves, and a call to etcd.
 START, CALL = 60.0, 2.0
+# Where files are in memory, and how many bytes members of etcd may need there.
+_MEMORY, _NEEDED = Path("/dev/shm"), 4 << 30
 # The processes end with this one, even if it is killed.
 _WITH_US = ["setpriv", "--pdeathsig", "KILL"] if shutil.which("setpriv") else []
 
@@ -36,6 +38,13 @@ def start(words: List[str], log: Path) -> "subprocess.Popen[bytes]":
                                 start_new_session=True)
 
 
+def _place(on_disk: bool) -> Optional[Path]:
+    """Where a temporary folder is made. On a disk that others keep busy, appends may wait for longer than leases last.
+    """
+    has_room = os.access(_MEMORY, os.W_OK) and shutil.disk_usage(_MEMORY).free > _NEEDED
+    return _MEMORY if has_room and not on_disk else None
+
+
 # Settings of replicas with TLS, and options of members. The keys of both are in one folder.
 _SECURED = """tls-certificate {keys}/m1.pem
 tls-key {keys}/m1.key
@@ -54,11 +63,12 @@ class Local:
     """A number of etcd's members and of replicas, in a temporary folder. Each can be killed and started again."""
 
     def __init__(self, members: int, replicas: int, chunk: int = 1 << 20, search: int = 1000,
-                 keys: Optional[str] = None) -> None:
+                 keys: Optional[str] = None, on_disk: bool = False) -> None:
         """`chunk` is how many bytes of entries a chunk has, and `search` how many milliseconds a request waits before a
-        search for deadlocks. With a folder of keys all connections of TCP have TLS."""
+        search for deadlocks. With a folder of keys all connections of TCP have TLS. Members that are not `on_disk` keep
+        their data in memory, if there is enough."""
         self._keys = keys
-        self.folder = Path(tempfile.mkdtemp(prefix="vlm-replicated-"))
+        self.folder = Path(tempfile.mkdtemp(prefix="vlm-replicated-", dir=_place(on_disk)))
         ports = free_ports(2 * members + replicas)
         self._clients, self._peers, self.ports = ports[:members], ports[members:2 * members], ports[2 * members:]
         secured = _SECURED.format(keys=keys) if keys is not None else ""

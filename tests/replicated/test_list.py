@@ -31,6 +31,8 @@ vlm_list = SourceFileLoader("vlm_list", str(LIST / "vlm-list")).load_module("vlm
 # How long threads may take to meet.
 PATIENCE = 10.0
 MEMBERS = 3
+# How a batch begins.
+BATCH = b"vlmlist1"
 # What an answer says of its cluster.
 HEADER = SimpleNamespace(cluster_id=7)
 
@@ -188,7 +190,7 @@ class Members(unittest.TestCase):
         self.assertLess(etcd_list._SHORT_PAGE * longest, most)
 
     def test_a_page_that_is_too_long_is_asked_for_in_short_ones(self):
-        keys = [SimpleNamespace(create_revision=at, key=b"vlm/entries/a", value=b"") for at in range(2, 40)]
+        keys = [SimpleNamespace(create_revision=at, key=b"vlm/entries/a", value=BATCH) for at in range(2, 40)]
         asked = []
 
         def answer(request, _):
@@ -202,6 +204,21 @@ class Members(unittest.TestCase):
         self.assertEqual([it.revision for it in self.store.batches(1, 99)], list(range(2, 40)))
         self.assertEqual(asked, [500, 32, 32])
         self.assertEqual(self.calls("read"), [0, 0, 0])
+
+    def test_what_no_replica_has_written_is_named(self):
+        for key, value, named in ((b"x", b"hello", "x"), (b"y", b"", "y"), (b"\xff", b"hello", "\ufffd")):
+            with self.subTest(named):
+                pair = SimpleNamespace(create_revision=4, key=b"vlm/entries/" + key, value=value)
+                self.members[0].Range = mock.Mock(return_value=SimpleNamespace(header=HEADER, kvs=[pair]))
+                with self.assertRaisesRegex(Broken, f"vlm/entries/{named}, which no replica has written"):
+                    list(self.store.batches(1, 9))
+
+    def test_what_no_replica_has_packed_is_named(self):
+        for value in (b"hello", b"", pack([placed(1, 1, 1)])[:-9]):
+            found = SimpleNamespace(kvs=[SimpleNamespace(key=b"vlm/packed/00000001", value=value)])
+            with mock.patch.object(self.store, "_range", return_value=found), self.subTest(value[:5]), \
+                    self.assertRaisesRegex(Broken, "vlm/packed/00000001, which no replica has written"):
+                next(self.store.chunks(0, 9))
 
     def test_an_append_that_is_there_is_not_tried_again(self):
         for member in self.members:
@@ -230,7 +247,7 @@ class Members(unittest.TestCase):
                 watch.check()
                 time.sleep(0.01)
             self.assertIsInstance(events.exception(), Ended)
-            self.assertEqual(self.store.watch(1).next(), [Batch(9, "a", b"batch")])
+            self.assertEqual(self.store.watch(1).next(), [Batch(9, "a", BATCH)])
         self.assertEqual(opened, [0, 1])
 
 
@@ -250,7 +267,7 @@ class Silent:
 def a_batch(name):
     """A watch response with a batch."""
     pair = SimpleNamespace(create_revision=9, mod_revision=9, key=b"vlm/entries/" + name.encode(),
-                           value=b"batch")
+                           value=BATCH)
     return SimpleNamespace(header=HEADER, compact_revision=0, canceled=False,
                            events=[SimpleNamespace(kv=pair, type=0, PUT=0)])
 
@@ -400,7 +417,8 @@ class Keeping(unittest.TestCase):
         self.to, batch = io.BytesIO(), Ends.batch
         chunks = [Chunk(1, 3, [batch(2, 1, 2), batch(3, 1, 3)])]
         self.store = SimpleNamespace(revision=lambda: 3, batches=lambda after, _: [],
-                                     chunks=lambda known, _: iter(chunks[known:]), place=lambda *_: 5)
+                                     chunks=lambda known, _: iter(chunks[known:]), place=lambda *_: 5,
+                                     spoil=mock.Mock())
         self.keeper = vlm_list.Keeper(self.store, 1, self.to)
         self.keeper._tell_batch(batch(1, 1, 1))
 
@@ -420,7 +438,8 @@ class Keeping(unittest.TestCase):
     def test_what_came_before_a_watch_ended_is_read(self):
         reads = []
         self.store.batches = lambda after, _: reads.append(after) or [Ends.batch(5, 1, 4)]
-        self.store.watch = lambda _: SimpleNamespace(next=mock.Mock(side_effect=[Ended, ValueError][len(reads) - 1]))
+        self.store.watch = lambda _: SimpleNamespace(
+            next=mock.Mock(side_effect=[Ended, ValueError][len(reads) - 1]), deleted=set())
         self.assertRaises(ValueError, self.keeper._follow)
         # (what was told is not read again)
         self.assertEqual(reads, [3, 5])
@@ -431,6 +450,7 @@ class Keeping(unittest.TestCase):
         for place in (None, 2):
             self.store.place = lambda *_, place=place: place
             self.assertRaises(Broken, self.keeper._read)
+        self.assertEqual(self.store.spoil.call_count, 2)
         self.store.place = lambda *_: 1
         self.assertEqual(self.keeper._read(), 3)
 
@@ -468,6 +488,13 @@ class Keeping(unittest.TestCase):
                 vlm_list.main()
             except SystemExit:
                 return ends.call_args[0][0]
+
+    def test_what_etcd_refuses_is_said_in_a_line(self):
+        self.store.revision = mock.Mock(side_effect=Refused)
+        with mock.patch.object(vlm_list.os, "_exit") as ends, self.assertLogs(level="ERROR") as said:
+            self.keeper._watched(self.keeper._follow)
+        self.assertEqual(([it.exc_info for it in said.records], ends.call_args[0]), ([None], (1,)))
+        self.assertEqual(said.output, ["ERROR:root:etcd refuses: PERMISSION_DENIED"])
 
     def test_a_part_of_a_frame_is_not_heard(self):
         whole, heard = struct.pack("<I", 6) + b"abatch", []

@@ -7,6 +7,7 @@ import select
 import signal
 import socket
 import sys
+import tempfile
 import time
 import unittest
 from pathlib import Path
@@ -27,6 +28,8 @@ CHUNK, STEPS = 3_000, 60
 VALUE = "00112233445566778899aabbccddeeff"
 # The quota of a small etcd, and the value of a key that fills it.
 SMALL, FILLING = 4 << 20, 100_000 * "x"
+# Gives a program another time of day.
+FAKED_TIME = Path("/usr/lib/x86_64-linux-gnu/faketime/libfaketime.so.1")
 # How often two connections of one session race, and the longest head start of either in seconds.
 RACES, HEAD_START = int(os.environ.get("VLM_RACES", "80")), 0.004
 
@@ -314,13 +317,80 @@ class Lost(unittest.TestCase):
             there = Lines(local.places[0], "open seconds=60", "declare P", "enq P EX name=A block=1")
             self.addCleanup(there.close)
             store = EtcdList(local.members)
-            store.drop(store.revision(), 0)
+            # (the last batch of the other replica is not its first)
+            store.drop(store.revision() - 1, 0)
             local.kill("replica 1")
             local.start_replica(1)
-            # (the next batch of the other replica is not its first)
             self.assertNotEqual(there.ask("enq P EX name=B block=1"), None)
             self.assertEqual(local.processes["replica 1"].wait(PATIENCE), 3)
             self.assertIn("the list lacks a batch", (local.folder / "replica 1.log").read_text())
+
+    def test_no_replica_goes_on_or_starts_on_a_list_that_was_emptied(self):
+        with Local(1, 3) as local:
+            local.wait()
+            there = Lines(local.places[0], "open seconds=60", "declare P", "enq P EX name=A block=1")
+            self.addCleanup(there.close)
+            local.kill("replica 2")
+            host, port = local.members[0].split(":")
+            etcd3.client(host, int(port), timeout=CALL).delete_prefix("vlm/")
+            for number in range(2):
+                self.assertEqual(local.processes[f"replica {number}"].wait(PATIENCE), 3)
+            local.start_replica(2)
+            self.assertEqual(local.processes["replica 2"].wait(PATIENCE), 3)
+            self.assertEqual((local.folder / "replica 2.log").read_text().count("ready"), 1)
+            self.assertIn("etcd has lost what it had told", local.logs())
+
+
+@unittest.skipUnless(FAKED_TIME.exists(), "libfaketime is not there")
+class Jumping(unittest.TestCase):
+    """Replicas whose clocks that tell the time of day jump."""
+
+    # Of a lease, and how much longer a session may take to end.
+    SECONDS, LATE = 4, 6
+
+    def setUp(self):
+        self.clock = tempfile.NamedTemporaryFile("w")
+        self.addCleanup(self.clock.close)
+        self.jump(0)
+        env = {"LD_PRELOAD": str(FAKED_TIME), "FAKETIME_TIMESTAMP_FILE": self.clock.name, "FAKETIME_NO_CACHE": "1",
+               "FAKETIME_DONT_FAKE_MONOTONIC": "1", "DONT_FAKE_MONOTONIC": "1", "VLM_LIST": self.true_list()}
+        with mock.patch.dict(os.environ, env):
+            self.local = Local(1, 2)
+        self.addCleanup(self.local.close)
+        self.local.wait()
+
+    def true_list(self):
+        """The list's program with the true time: Python's sleep fails with another one."""
+        folder = tempfile.TemporaryDirectory()
+        self.addCleanup(folder.cleanup)
+        program = Path(folder.name) / "list"
+        installed = os.environ["VLM_PREFIX"] + "/libexec/vlm/list/vlm-list"
+        program.write_text(f'#!/bin/sh\nunset LD_PRELOAD\nexec "{installed}" "$@"\n')
+        program.chmod(0o700)
+        return str(program)
+
+    def jump(self, seconds):
+        self.clock.seek(0)
+        self.clock.write(f"{seconds:+d}\n")
+        self.clock.flush()
+
+    def test_a_lease_knows_no_time_of_day(self):
+        holder = Lines(self.local.places[0], f"open seconds={self.SECONDS}", "declare P", "enq P EX name=A block=1")
+        other = Lines(self.local.places[1], "open seconds=60", "declare Q")
+        self.addCleanup(other.close)
+        for seconds in (86_400, -86_400):
+            self.jump(seconds)
+            for _ in range(self.SECONDS + 1):
+                self.assertRegex(holder.ask("alive"), "^alive")
+                time.sleep(1)
+            self.assertEqual(other.ask("enq Q EX name=A block=1 noqueue"), "Q: NOTQUEUED")
+        begun = time.monotonic()
+        other.ask("enq Q EX name=A block=1 ast=7")
+        holder.close()
+        self.jump(86_400)
+        self.assertRegex(other.next(), "^Q: completion 7")
+        took = time.monotonic() - begun
+        self.assertTrue(self.SECONDS - 2 < took < self.SECONDS + self.LATE, took)
 
 
 class Full(unittest.TestCase):
