@@ -26,6 +26,8 @@
  * - The service searches for deadlocks. There are no calls to search, to look, to count, or for nodes.
  * - A call of a forked child answers VLM_BADPARAM: the connection is its parent's. The child closes its copy, by
  *   pthread_atfork, so the locks end with the parent.
+ * - A program that closes all its descriptors (closefrom) closes its clients first, except in a forked child: a call
+ *   would wait for ever, or write to the descriptor that has the number of the socket by then.
  * - With addresses of TCP a connection that fails is replaced, at the next address, and no call notices it. At most 64
  *   lines are under way; other calls wait. The locks are lost once no address was heard for the time of the lease.
  *

@@ -9,12 +9,12 @@
 #include <string.h>
 #include <unistd.h>
 
-enum { USUAL_QUOTA = VLM_MAX_QUOTA, DECIMAL = 10, SETTING = 64, FIRST_ROWS = 16 };
+enum { USUAL_QUOTA = VLM_MAX_QUOTA, DECIMAL = 10, SETTING = 64, FIRST_ROWS = 16, NOBODY = -1 };
 
 static pthread_mutex_t opening = PTHREAD_MUTEX_INITIALIZER;
 /* Guarded by `opening`. */
 static const struct engine *opened;
-/* 0 until a process has claimed the layer. */
+/* 0 until a process has claimed the layer, and NOBODY in a child of that process. */
 static _Atomic pid_t owner;
 
 const char *vms_setting(const char *name) {
@@ -65,6 +65,14 @@ static uint32_t open_named(void) {
         opened = engine;
     return vms_condition(status);
 }
+
+/* A child may have the pid of its parent: in another PID namespace, or once its parent has ended. */
+static void begin_child(void) {
+    if (atomic_load(&owner) != 0)
+        atomic_store(&owner, NOBODY);
+}
+
+__attribute__((constructor)) static void watch_forks(void) { pthread_atfork(NULL, NULL, begin_child); }
 
 bool vms_claim(void) {
     pid_t claimed = 0, own = getpid();

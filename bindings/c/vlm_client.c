@@ -14,8 +14,9 @@ enum { FIRST_QUEUE = 16, FIRST_OPTIONS = offsetof(vlm_client_options, certificat
 
 static const char usual_socket[] = "/run/vlm/lock.sock";
 
-/* A forked child may not use its parent's connection. */
-bool vlmc_is_usable(const vlm_client *client) { return client->owner == getpid(); }
+/* A forked child may not use its parent's connection. Forks are counted, since a child may have the pid of its parent:
+ * in another PID namespace, or once its parent has ended. A child of clone(2) counts none: its pid tells. */
+bool vlmc_is_usable(const vlm_client *client) { return client->owner == getpid() && client->forks == vlmc_forks(); }
 
 static bool are_zeros(const uint32_t *words, size_t count) {
     for (size_t at = 0; at < count; at++)
@@ -106,6 +107,7 @@ static vlm_client *made(const vlm_client_options *options) {
     pthread_cond_init(&client->settled, NULL);
     pthread_cond_init(&client->has_room, NULL);
     client->owner = getpid();
+    client->forks = vlmc_forks();
     client->options = *options;
     client->last_event = &client->first_event;
     client->free_record = NO_RECORD;

@@ -144,7 +144,8 @@ struct event {
 
 struct vlm_client {
     pthread_mutex_t sending, state;
-    pid_t owner; /* the process that opened it */
+    pid_t owner;    /* the process that opened it */
+    uint64_t forks; /* that made that process */
     vlm_client_options options;
     char *path;
     struct address *addresses;
@@ -202,8 +203,10 @@ bool vlmc_find_addresses(vlm_client *client);
 bool vlmc_connect_to(const vlm_client *client, struct channel *channel, uint64_t until);
 bool vlmc_wait_for(const vlm_client *client, int descriptor, short events, uint64_t until);
 
-/* vlm_client_sockets.c: makes a socket that forked children close, or answers -1. */
+/* vlm_client_sockets.c: makes a socket that forked children close, or answers -1. vlmc_forks counts the forks that made
+ * this process, and takes no mutex. */
 int vlmc_open_socket(int family, int kind);
+uint64_t vlmc_forks(void);
 
 /* vlm_client_sessions.c: none takes a mutex held. vlmc_connect begins a session: VLM_NORMAL or VLM_LOST. vlmc_go_on
  * resumes it at the address whose turn it is. vlmc_is_end tells whether a line says that the session is over, and

@@ -15,6 +15,7 @@ static struct {
     bool is_watching; /* forks */
     bool *are_open;   /* by descriptors: whether it is a socket of a client */
     int room;
+    uint64_t forks; /* between the first process and this one */
 } sockets = {.mutex = PTHREAD_MUTEX_INITIALIZER};
 
 static void before_fork(void) { pthread_mutex_lock(&sockets.mutex); }
@@ -27,8 +28,11 @@ static void begin_child(void) {
             close(descriptor);
         sockets.are_open[descriptor] = false;
     }
+    sockets.forks++;
     pthread_mutex_unlock(&sockets.mutex);
 }
+
+uint64_t vlmc_forks(void) { return sockets.forks; }
 
 /* Wants the mutex held. */
 static bool watches_forks(void) {

@@ -12,12 +12,13 @@
 #include <string.h>
 #include <sys/prctl.h>
 #include <sys/socket.h>
+#include <sys/syscall.h>
 #include <sys/time.h>
 #include <sys/un.h>
 #include <sys/wait.h>
 #include <unistd.h>
 
-enum { THREADS = 4, ROUNDS = 200, WAIT = 20000, SENDERS = 400, ASKERS = 64, MOST_SECONDS = 120 };
+enum { THREADS = 4, ROUNDS = 200, WAIT = 20000, SENDERS = 400, ASKERS = 64, MOST_SECONDS = 120, CHILD_SECONDS = 9 };
 
 static const char *vlmd, *config, *path;
 static pid_t daemon_pid;
@@ -303,11 +304,20 @@ static void test_race(void) {
     vlm_client_close(clients[1]);
 }
 
-static void test_fork(void) {
+/* What getpid answers, if it is not 0. */
+static pid_t shown;
+
+pid_t getpid(void) { return shown != 0 ? shown : (pid_t)syscall(SYS_getpid); }
+
+/* A child is refused, also one with the pid of its parent: the first process of a PID namespace may have such a child.
+ */
+static void test_fork(bool has_same_pid) {
+    shown = has_same_pid ? getpid() : 0;
     vlm_client *client = opened((vlm_client_options){.delivery = VLM_THREADS_BY_PROGRAM});
     uint32_t pid = declared(client);
     pid_t child = fork();
     if (child == 0) {
+        alarm(CHILD_SECONDS);
         vlm_threads_request request = wanted(pid, VLM_EX, 0);
         int descriptor;
         _exit(enq(client, &request, "A") == VLM_BADPARAM && vlm_client_close(client) == VLM_BADPARAM
@@ -320,6 +330,7 @@ static void test_fork(void) {
     vlm_threads_request request = wanted(pid, VLM_EX, 0);
     CHECK(enq(client, &request, "A") == VLM_NORMAL);
     vlm_client_close(client);
+    shown = 0;
 }
 
 /* A program that forks a child under a lock, and is killed. The child lives until the pipe ends. */
@@ -1002,7 +1013,8 @@ int main(int count, char **words) {
     test_routines();
     test_ends();
     test_race();
-    test_fork();
+    test_fork(false);
+    test_fork(true);
     test_heir();
     test_streams();
     test_order();

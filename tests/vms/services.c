@@ -32,6 +32,7 @@
 #include <stdio.h>
 #include <stdlib.h>
 #include <string.h>
+#include <sys/syscall.h>
 #include <sys/wait.h>
 #include <time.h>
 #include <unistd.h>
@@ -461,7 +462,12 @@ static void test_cancels(void) {
     give_all_up();
 }
 
-static void test_fork(void) {
+/* What getpid answers, if it is not 0. */
+static pid_t shown;
+
+pid_t getpid(void) { return shown != 0 ? shown : (pid_t)syscall(SYS_getpid); }
+
+static void refuse_child(void) {
     int status;
     pid_t child = fork();
     if (child == 0) {
@@ -473,6 +479,15 @@ static void test_fork(void) {
         _exit(0);
     }
     CHECK(waitpid(child, &status, 0) == child && WIFEXITED(status) && WEXITSTATUS(status) == 0);
+}
+
+/* A child is refused, also one with the pid of its parent: the first process of a PID namespace may have such a child.
+ */
+static void test_fork(void) {
+    refuse_child();
+    shown = getpid();
+    refuse_child();
+    shown = 0;
 }
 
 static void *ask(void *unused) {

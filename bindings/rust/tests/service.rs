@@ -20,6 +20,7 @@ use vlm::{
 };
 
 const LONG: Duration = Duration::from_secs(30);
+const FORKS: u32 = 400;
 
 /// A daemon with a folder of its own, which goes with it.
 struct Daemon {
@@ -461,4 +462,62 @@ fn a_parent_is_a_lock_of_the_service() {
     drop(parent);
     drop(child);
     connection.deq(p, Some(lock), DeqFlags::default()).unwrap();
+}
+
+extern "C" {
+    fn alarm(seconds: u32) -> u32;
+    fn fork() -> i32;
+    fn waitpid(child: i32, status: &mut i32, options: i32) -> i32;
+    fn _exit(status: i32) -> !;
+}
+
+/// Whether a fact is true in a forked child. One that does not end is no such child.
+fn in_child(fact: impl FnOnce() -> bool) -> bool {
+    let mut status = 1;
+    // SAFETY: the child calls what the connection may be asked there, and ends without what its parent has begun.
+    unsafe {
+        match fork() {
+            0 => {
+                alarm(20);
+                _exit(if fact() { 0 } else { 1 })
+            }
+            child => assert_eq!(waitpid(child, &mut status, 0), child),
+        }
+    }
+    status == 0
+}
+
+/// Locks until it is told to stop, with a routine for each lock.
+fn lock_often(connection: &Connection, process: ProcessId, name: &[u8], is_over: &AtomicUsize) {
+    while is_over.load(Ordering::Relaxed) == 0 {
+        let terms = Terms::new().blocking(|_| ());
+        drop(connection.lock_with(process, name, Mode::Ex, terms));
+    }
+}
+
+#[test]
+fn a_forked_child_is_refused_beside_threads() {
+    let Some(daemon) = Daemon::new("forks") else {
+        return;
+    };
+    let connection = daemon.connection(|| ());
+    let process = connection.declare(9, 9).expect("a process");
+    let terms = Terms::new().blocking(|_| ());
+    let mut guard = connection.lock_with(process, b"A", Mode::Ex, terms).ok();
+    let is_over = AtomicUsize::new(0);
+    thread::scope(|scope| {
+        for name in [b"B", b"C", b"D"] {
+            let (connection, is_over) = (&connection, &is_over);
+            scope.spawn(move || lock_often(connection, process, name, is_over));
+        }
+        let are_refused = (0..FORKS).all(|_| {
+            in_child(|| {
+                drop(guard.take());
+                connection.lock(process, b"E", Mode::Ex).err() == Some(Error::Badparam)
+            })
+        });
+        is_over.store(1, Ordering::Relaxed);
+        assert!(are_refused);
+    });
+    assert!(guard.is_some_and(|it| it.token().is_ok()));
 }

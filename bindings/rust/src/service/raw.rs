@@ -1,9 +1,10 @@
 //! The structs and calls of include/vlm_client.h. All that is unsafe about connections stands here.
 
+use std::cell::RefCell;
 use std::collections::{BTreeMap, BTreeSet};
-use std::ffi::{c_char, c_void, CStr, CString};
+use std::ffi::{c_char, c_int, c_void, CStr, CString};
 use std::ptr;
-use std::sync::{Arc, Mutex, MutexGuard, PoisonError};
+use std::sync::{Arc, Mutex, MutexGuard, Once, PoisonError};
 
 use vlm_sys::client::*;
 use vlm_sys::threads::{Declaration, Dequeue, Event as RawEvent, Request};
@@ -60,6 +61,36 @@ static KNOWN: Mutex<Table> = Mutex::new(Table {
 
 fn locked<T: ?Sized>(mutex: &Mutex<T>) -> MutexGuard<'_, T> {
     mutex.lock().unwrap_or_else(PoisonError::into_inner)
+}
+
+thread_local! {
+    /// The table during a fork by this thread. Without it a child could find the table locked by a thread that it does
+    /// not have.
+    static FORKING: RefCell<Option<MutexGuard<'static, Table>>> = const { RefCell::new(None) };
+}
+
+/// A function that a fork calls.
+type AtFork = Option<extern "C" fn()>;
+
+extern "C" {
+    fn pthread_atfork(before: AtFork, in_parent: AtFork, in_child: AtFork) -> c_int;
+}
+
+// (at the end of a thread its variables may be gone)
+extern "C" fn before_fork() {
+    let _ = FORKING.try_with(|table| *table.borrow_mut() = Some(locked(&KNOWN)));
+}
+
+extern "C" fn after_fork() {
+    let _ = FORKING.try_with(|table| drop(table.borrow_mut().take()));
+}
+
+fn watch_forks() {
+    static WATCHED: Once = Once::new();
+    // SAFETY: the functions may be called by any thread. Without memory they are not called.
+    WATCHED.call_once(|| unsafe {
+        pthread_atfork(Some(before_fork), Some(after_fork), Some(after_fork));
+    });
 }
 
 /// A number that no closure and no connection has had, from 1.
@@ -162,6 +193,7 @@ fn pointer_of(text: &Option<CString>) -> *const c_char {
 impl Connected {
     /// Connects to a socket, or to addresses with a lease.
     pub fn open(how: &Opening, loss: Option<LostRun>) -> Result<Connected, u32> {
+        watch_forks();
         let mut opened = Connected {
             client: ptr::null_mut(),
             number: new_number(),
