@@ -167,6 +167,24 @@ class Connections(unittest.TestCase):
             pool.submit(end)
             self.assertRaises(KeyboardInterrupt, call, *arguments)
 
+    def test_a_close_grants_nothing_to_a_wait(self):
+        connection = self.connection()
+        p, q = connection.declare(), connection.declare()
+        p.lock("A", Mode.EX, blocking=print)
+        with ThreadPoolExecutor(1) as pool:
+            asked = pool.submit(q.lock, "A", Mode.EX)
+            self.assertTrue(connection.wait(SECONDS))
+            connection.close()
+            self.assertRaises(LostError, asked.result, SECONDS)
+
+    def test_an_interrupt_at_the_end_of_a_block_leaves_no_lock(self):
+        p, q = self.pair()
+        deq = mock.Mock(wraps=p.deq, side_effect=[KeyboardInterrupt, mock.DEFAULT])
+        with mock.patch.object(p, "deq", deq), self.assertRaises(KeyboardInterrupt):
+            with p.lock("A", Mode.EX):
+                pass
+        q.lock("A", Mode.EX, flags=Flags.NOQUEUE).release()
+
     def test_an_interrupted_wait_leaves_no_lock(self):
         p, q = self.pair()
         self.interrupted(q, q.lock("A", Mode.EX, blocking=print), p.lock, "A", Mode.EX, SECONDS)

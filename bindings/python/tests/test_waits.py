@@ -137,10 +137,10 @@ class Waits(unittest.TestCase):
         asked.result(SOON).release()
 
     def test_time_outs_that_are_no_times(self):
-        for timeout in (-1, float("nan"), -0.5):
+        for timeout in (-1, float("nan"), -0.5, -10**400):
             self.assertRaises(ValueError, self.p.lock, "A", Mode.EX, timeout)
-        self.p.lock("A", Mode.EX, float("inf")).release()
-        self.p.lock("A", Mode.EX, 1e300).release()
+        for timeout in (float("inf"), 1e300, 10**400):
+            self.p.lock("A", Mode.EX, timeout).release()
 
     def interrupt(self, before=lambda: None):
         """Once a request waits, the main thread makes a call, and is interrupted."""
@@ -181,6 +181,13 @@ class Waits(unittest.TestCase):
 
         with mock.patch.object(Asked, "make", interrupted):
             self.assertRaises(KeyboardInterrupt, self.p.lock, "A", Mode.EX)
+        self.assertEqual(self.count("locks"), 0)
+
+    def test_an_interrupt_at_the_end_of_a_block_leaves_no_lock(self):
+        deq = mock.Mock(wraps=self.p.deq, side_effect=[KeyboardInterrupt, mock.DEFAULT])
+        with mock.patch.object(self.p, "deq", deq), self.assertRaises(KeyboardInterrupt):
+            with self.p.lock("A", Mode.EX):
+                pass
         self.assertEqual(self.count("locks"), 0)
 
     def test_an_interrupt_at_the_start_of_a_wait_leaves_no_request(self):

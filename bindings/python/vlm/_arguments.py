@@ -2,6 +2,7 @@
 ValueError or a TypeError."""
 
 import threading
+from math import inf
 from operator import index
 from typing import Any, Optional, Tuple
 
@@ -54,7 +55,11 @@ def seconds(timeout: Optional[float]) -> Optional[float]:
     """The longest wait, or None for one without an end."""
     if timeout is None:
         return None
-    longest = float(timeout)
+    try:
+        longest = float(timeout)
+    except OverflowError:
+        # (an int may be longer than any float)
+        longest = inf if timeout > 0 else -inf
     if not longest >= 0:
         raise ValueError("a time-out is a number of seconds from 0 on")
     return longest if longest <= threading.TIMEOUT_MAX else None

@@ -36,6 +36,8 @@ class ServedEvent:
 
 # What a routine of a connection is called with.
 Routine = Callable[[ServedEvent], object]
+# Calls that make a process or a lock. A close of the connection ends what they make.
+_ASKS = ("declare", "enq", "convert", "start_enq")
 # The longest wait for a descriptor, in milliseconds.
 _LONGEST = (1 << 31) - 1
 
@@ -64,7 +66,8 @@ class _Client:
             status: int = raw.call(name)(self._handle, *arguments)
         finally:
             self._end(this)
-        return raw.LOST if self.is_closed and status == Condition.NONEXPR else status
+        # (a close ends one process after another, so the end of one may have granted this request)
+        return raw.LOST if self.is_closed and (status == Condition.NONEXPR or name in _ASKS) else status
 
     def close(self) -> None:
         """Ends all calls that wait. The last call that is under way frees the client. A forked child frees nothing:
@@ -371,9 +374,8 @@ class ServedLock(HeldLock):
     def __enter__(self) -> "ServedLock":
         return self
 
-    def __exit__(self, kind: Optional[Type[BaseException]], error: Optional[BaseException],
-                 trace: Optional[TracebackType]) -> None:
-        """Gives the lock up. After an exception it writes nothing, and raises no other one."""
+    def _leave(self, kind: Optional[Type[BaseException]]) -> None:
+        """A lock that is lost is an error, and one that went with its process is none."""
         if kind is not None:
             self._value = self._tail = None
         with suppress(NonExprError, DepartedError, *([VlmError, LostError] if kind is not None else [])):

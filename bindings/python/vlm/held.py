@@ -8,7 +8,7 @@ from . import _library as raw
 from ._arguments import flags_word, part, word
 from ._asks import GRANTS, Asked
 from ._contexts import Call
-from .errors import ClosedError, DepartedError, NonExprError, VlmError, error_of
+from .errors import ClosedError, DepartedError, LostError, NonExprError, VlmError, error_of
 from .values import Condition, Flags, Mode
 
 if TYPE_CHECKING:
@@ -73,6 +73,25 @@ class HeldLock:
     def _written(self) -> bytes:
         """The 64 bytes of what is to be written."""
         return (self._value or bytes(16)) + (self._tail or bytes(48))
+
+    def release(self) -> None:
+        """Gives the lock up, and writes the value that was named. A second call does nothing."""
+        raise NotImplementedError
+
+    def _leave(self, kind: Optional[Type[BaseException]]) -> None:
+        """Leaves a `with` block as its kind of lock does."""
+        raise NotImplementedError
+
+    def __exit__(self, kind: Optional[Type[BaseException]], error: Optional[BaseException],
+                 trace: Optional[TracebackType]) -> None:
+        """Gives the lock up. After an exception it writes nothing, and raises no other one."""
+        try:
+            self._leave(kind)
+        except BaseException:
+            # (Ctrl-C may have come before the lock was given up)
+            with suppress(VlmError, LostError, ClosedError):
+                self.release()
+            raise
 
 
 class Held(HeldLock):
@@ -154,10 +173,8 @@ class Held(HeldLock):
     def __enter__(self) -> "Held":
         return self
 
-    def __exit__(self, kind: Optional[Type[BaseException]], error: Optional[BaseException],
-                 trace: Optional[TracebackType]) -> None:
-        """Gives the lock up. After an exception it writes nothing, and raises no other one. A lock that went with its
-        process is no error."""
+    def _leave(self, kind: Optional[Type[BaseException]]) -> None:
+        """A lock that went with its process is no error."""
         if kind is not None:
             self._value = self._tail = None
         with suppress(NonExprError, DepartedError, ClosedError, *([VlmError] if kind is not None else [])):
