@@ -189,6 +189,20 @@ def blocking_at_start(_program):
         yield from difference((holder.wait(50), waiter.wait(50)), (128 + signal.SIGUSR1, 0))
 
 
+def signals(_program):
+    """The command takes each signal that the completion for bash offers."""
+    script = '. "$0"; COMP_WORDS=(vlm lock --on-blocking ""); COMP_CWORD=3; _vlm; echo "${COMPREPLY[@]}"'
+    offered = subprocess.run(["bash", "-c", script, TOP / "service/commands/completion.bash"], capture_output=True,
+                             text=True, timeout=20).stdout.split()
+    if len(offered) < 30:
+        yield f"the completion offers {offered}"
+    with Daemon() as daemon:
+        for name in (*offered, "CHLD", "64"):
+            yield from difference((name, run(daemon, "lock", "--on-blocking", name, "A", "true")[0]), (name, 0))
+        for name in ("SIG", "SIGSIGINT", "", "0", "65", "int"):
+            yield from difference((name, run(daemon, "lock", "--on-blocking", name, "A", "true")[0]), (name, 64))
+
+
 def lost(_program):
     """If the daemon is killed the command gets SIGTERM, and the status is 75. So it is if the session is killed."""
     with Daemon("grace 0") as daemon:
@@ -304,6 +318,11 @@ def unprinted():
     with tempfile.TemporaryDirectory() as folder, socket.socket(socket.AF_UNIX) as listener:
         listener.bind(f"{folder}/socket")
         listener.listen()
+        command = start(None, "kill", 16 * "0", socket=f"{folder}/socket")
+        with listener.accept()[0] as client:
+            client.sendall(b"vlm protocol 1 epoch 0\n")
+        told = command.communicate(timeout=SECONDS)
+        yield from difference((command.returncode, *told), (69, "", "vlm: the service has gone\n"))
         command = start(None, "metrics", socket=f"{folder}/socket")
         with listener.accept()[0] as client:
             client.sendall(b"vlm protocol 1 epoch 0\nvlmd_locks 2\n")
@@ -332,12 +351,15 @@ def told(_program):
         yield from difference((holder.wait(20), waiter.wait(20)), (75, 0))
         yield from difference(run(daemon, "metrics", "--connect", daemon.socket, socket="/nowhere")[0], 0)
         for words in (["kill"], ["kill", "1"], ["kill", "--connect"], ["metrics", "--all"], ["metrics", "all"],
-                      ["who", "A", "B"], ["who", "-x"], ["who", ""], ["who", 32 * "A"], ["who", "x:4g"]):
+                      ["who", "A", "B"], ["who", "-x"], ["who", ""], ["who", 32 * "A"], ["who", "x:4g"], ["who", "x:4"],
+                      ["who", "x:"], ["who", f"x:{32 * '41'}"]):
             yield from difference((words, run(daemon, *words)[0]), (words, 64))
-        for name, printed in (("a b", "x:612062"), ("\u00e9", "x:c3a9"), ("a\nb", "x:610a62"), ("a#", "a#")):
-            for asked in (name, printed):
-                words = "lock", name, VLM(), "who", asked
-                yield from difference((words, run(daemon, *words)[1].split("\n")[1].split()[:1]), (words, [printed]))
+        for name, asked, printed in (("a b", "a b", "x:612062"), ("a b", "x:612062", "x:612062"),
+                                     ("\u00e9", "\u00e9", "x:c3a9"), ("\u00e9", "x:C3A9", "x:c3a9"),
+                                     ("a\nb", "a\nb", "x:610a62"), ("a#", "a#", "a#"), ("A", "x:41", "A"),
+                                     ("x:41", "x:783a3431", "x:783a3431")):
+            words = "lock", name, VLM(), "who", asked
+            yield from difference((words, run(daemon, *words)[1].split("\n")[1].split()[:1]), (words, [printed]))
         for words in (["lock", 32 * "A", "true"], ["lock", "", "true"], ["who", 32 * "A"]):
             told = run(daemon, *words)[1].splitlines()[0]
             yield from difference((words, told), (words, "vlm: the name of a lock has 1 to 31 bytes"))
@@ -355,9 +377,21 @@ def front(_program):
 
 
 def turned_away(_program):
-    """A command says why it is not let in: its user has no group, there is no socket, or nobody greets it."""
+    """A command says why it is not let in: its user has no group or too many connections, there is no socket, or nobody
+    greets it."""
     with Daemon("group 54321 5") as daemon:
         yield from difference(run(daemon, "who"), (69, f"vlm: {daemon.socket}: no group\n"))
+    with Daemon("connections 1") as daemon, Proxy(daemon.socket) as proxy:
+        replica = addresses(proxy)
+        # (the last client may not have left yet)
+        while not (first := daemon.client()).is_quiet():
+            first.close()
+        for words in (["who"], ["metrics"], ["kill", 16 * "0"], ["lock", "A", "true"]):
+            yield from difference((words, run(daemon, *words)),
+                                  (words, (69, f"vlm: {daemon.socket}: too many connections\n")))
+        yield from difference(run(daemon, "who", socket=replica),
+                              (69, f"vlm: no replica answers at {replica}: too many connections\n"))
+        first.close()
     with tempfile.TemporaryDirectory() as folder, socket.socket(socket.AF_UNIX) as listener:
         listener.bind(f"{folder}/socket")
         for path, why in ((f"{folder}/none", "No such file or directory: is vlmd running?"),
@@ -427,7 +461,7 @@ def completed_in_bash(_program):
 def tests():
     checks = {"commands that are not let in": turned_away,
               "statuses of vlm lock": statuses, "the value block of vlm lock": values, "signals to commands": blocking,
-              "signals at the start": blocking_at_start, "the token of vlm lock": tokens,
+              "names of signals": signals, "signals at the start": blocking_at_start, "the token of vlm lock": tokens,
               "a service without tokens": no_tokens, "locks that are lost": lost, "commands at replicas": replicated,
               "locks at replicas that are lost": replicas_lost, "killed commands": killed,
               "commands and a witness": witnessed,

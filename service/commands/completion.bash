@@ -10,7 +10,10 @@ _vlm() {
     fi
     case "${COMP_WORDS[1]},$previous" in
         lock,-m | lock,--mode) mapfile -t COMPREPLY < <(compgen -W 'NL CR CW PR PW EX' -- "$current") ;;
-        lock,--on-blocking) mapfile -t COMPREPLY < <(compgen -A signal -- "$current") ;;
+        lock,--on-blocking)
+            # (without those of real time, and without what bash only traps)
+            mapfile -t COMPREPLY < <(compgen -A signal -- "$current" | sed -n '/^SIGRT/d; /^SIG[A-Z0-9]*$/p')
+            ;;
         lock,*)
             if [[ $current == -* ]]; then
                 mapfile -t COMPREPLY < <(compgen -W '--connect -m -n -w -E --value --on-blocking --help' -- "$current")

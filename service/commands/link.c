@@ -19,7 +19,7 @@
 enum { PATIENCE = 3000 };
 
 static const char usual_socket[] = "/run/vlm/lock.sock", greeting[] = "vlm protocol 1 ", no_rights[] = "no rights",
-                  no_group[] = "no group";
+                  no_group[] = "no group", too_many[] = "too many connections";
 
 const char *usual_address(void) {
     const char *address = getenv("VLM_SOCKET");
@@ -104,12 +104,16 @@ int link_line(struct link *link, char *line, int64_t until) {
 }
 
 /* Reads the greeting, or the line in its place: none if nobody answers. Returns false if it is no greeting, or one of
- * another protocol. */
+ * another protocol, or if a refusal comes along with it, which is the line then. */
 static bool is_greeted(struct link *link, char *line, int64_t until) {
+    size_t len = strlen(too_many);
     if (link_line(link, line, until) != 1)
         line[0] = 0;
-    link->is_refused = strcmp(line, no_rights) == 0;
-    return strncmp(line, greeting, strlen(greeting)) == 0;
+    bool is_greeting = strncmp(line, greeting, strlen(greeting)) == 0;
+    if (is_greeting && link->len > len && memcmp(link->in, too_many, len) == 0)
+        is_greeting = !take_line(link, line);
+    link->is_refused = strcmp(line, no_rights) == 0 || strcmp(line, no_group) == 0 || strcmp(line, too_many) == 0;
+    return is_greeting;
 }
 
 /* A socket that is none of the standard streams. In the place of a closed one, the command of `vlm lock` would have it.
@@ -146,7 +150,7 @@ static bool open_socket(struct link *link, const char *path) {
     char line[LINE_ROOM];
     if (is_greeted(link, line, FOREVER))
         return true;
-    if (line[0] == 0 || strcmp(line, no_group) == 0)
+    if (line[0] == 0 || link->is_refused)
         fprintf(stderr, "vlm: %s: %s\n", path, line[0] == 0 ? "vlmd does not answer: its log may say why" : line);
     else
         fprintf(stderr, "vlm: %s speaks another protocol\n", path);
@@ -168,7 +172,8 @@ static bool is_begun(struct link *link, const char *host, struct asking *asking)
     if (is_greeted(link, line, milliseconds() + PATIENCE))
         return true;
     const char *why = vlmc_channel_reason(&link->channel);
-    snprintf(asking->reason, sizeof asking->reason, "%s", why != NULL ? why : link->is_refused ? no_rights : "");
+    const char *reason = why != NULL ? why : link->is_refused ? line : "";
+    snprintf(asking->reason, VLM_TLS_REASON, "%.*s", VLM_TLS_REASON - 1, reason);
     return false;
 }
 
@@ -237,9 +242,8 @@ bool link_open(struct link *link, const char *address) {
     return false;
 }
 
-bool write_name(const char *name, char *text) {
-    size_t len = strlen(name);
-    bool is_plain = strncmp(name, "x:", 2) != 0;
+bool write_name(const char *name, size_t len, char *text) {
+    bool is_plain = len < 2 || memcmp(name, "x:", 2) != 0;
     for (size_t at = 0; at < len; at++)
         is_plain &= name[at] > ' ' && name[at] < 127;
     if (len == 0 || len > MOST_NAME) {
@@ -247,7 +251,7 @@ bool write_name(const char *name, char *text) {
         return false;
     }
     if (is_plain)
-        memcpy(text, name, len + 1);
+        sprintf(text, "%.*s", (int)len, name);
     else
         for (size_t at = 0, to = (size_t)sprintf(text, "x:"); at < len; at++, to += 2)
             sprintf(text + to, "%02x", (unsigned char)name[at]);

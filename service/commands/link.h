@@ -19,7 +19,7 @@ struct link {
     struct channel channel;
     char in[8192];
     size_t len;
-    bool is_refused; /* by a replica, in which the name of the certificate has no rights */
+    bool is_refused; /* by a line in the place of the greeting, or after it */
 };
 
 /* Connects to the service at an address: a socket of Unix, or the first that answers of replicas at addresses of TCP.
@@ -47,9 +47,9 @@ int end_output(int got);
 /* The time of a clock that never goes back, in milliseconds. */
 int64_t milliseconds(void);
 
-/* Writes the name of a resource as lines have it into NAME_TEXT bytes. Returns false if it is empty or too long, which
- * it says. */
-bool write_name(const char *name, char *text);
+/* Writes the name of a resource as lines have it, and as the service prints it, into NAME_TEXT bytes. Returns false if
+ * it is empty or too long, which it says. */
+bool write_name(const char *name, size_t len, char *text);
 
 /* The commands. Each returns its exit status. */
 int run_lock(int count, char **words);

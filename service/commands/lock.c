@@ -38,21 +38,17 @@ static bool read_number(const char *word, long most, int *number) {
     return end != word && *end == 0 && read >= 0 && read <= most;
 }
 
-/* A signal by its number, or a usual one by its name with or without SIG. */
+/* A signal by its number, or by its name with or without SIG. Signals of real time have only numbers. */
 static bool read_signal(const char *word, int *number) {
     if (read_number(word, NSIG - 1, number))
         return *number > 0;
-    static const struct {
-        const char *name;
-        int number;
-    } signals[] = {{"HUP", SIGHUP},   {"INT", SIGINT},   {"QUIT", SIGQUIT}, {"TERM", SIGTERM},
-                   {"KILL", SIGKILL}, {"USR1", SIGUSR1}, {"USR2", SIGUSR2}, {"ALRM", SIGALRM},
-                   {"CONT", SIGCONT}, {"STOP", SIGSTOP}, {"TSTP", SIGTSTP}, {"WINCH", SIGWINCH}};
     if (strncmp(word, "SIG", 3) == 0)
         word += 3;
-    for (size_t at = 0; at < sizeof signals / sizeof *signals; at++) {
-        *number = signals[at].number;
-        if (strcmp(signals[at].name, word) == 0)
+    if (strcmp(word, "IO") == 0)
+        word = "POLL"; /* (another name of it) */
+    for (*number = 1; *number < NSIG; ++*number) {
+        const char *name = sigabbrev_np(*number);
+        if (name != NULL && strcmp(name, word) == 0)
             return true;
     }
     return false;
@@ -99,7 +95,7 @@ static bool read_words(int count, char **words, struct wanted *wanted) {
         return false;
     wanted->name = words[optind];
     wanted->command = words + optind + 1;
-    return write_name(wanted->name, wanted->text);
+    return write_name(wanted->name, strlen(wanted->name), wanted->text);
 }
 
 /* Starts the command, with the signals as the wrapper was given them. A command that does not have the connection ends

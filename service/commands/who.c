@@ -3,6 +3,7 @@
 
 #include <getopt.h>
 #include <stdio.h>
+#include <stdlib.h>
 #include <string.h>
 
 enum { COLUMNS = 13, WANTED = 5, STATE = 6, COMMAND = 10, SESSION = 8, BLOCKER = 12 };
@@ -94,15 +95,27 @@ static int print_rows(struct link *link, const struct shown *shown) {
     return end_output(got);
 }
 
-/* Writes a name that `vlm lock` was given, or one that is printed with x: as it is printed. */
+/* Writes a name that `vlm lock` was given, or one whose bytes stand after x: as hexadecimal digits. */
 static bool write_asked(const char *name, char *text) {
-    size_t len = strlen(name);
+    char bytes[MOST_NAME];
+    size_t len = strlen(name), count = 0;
     if (strncmp(name, "x:", 2) != 0)
-        return write_name(name, text);
-    if (len >= NAME_TEXT || strspn(name + 2, "0123456789abcdef") != len - 2)
+        return write_name(name, len, text);
+    if (len >= NAME_TEXT || len % 2 != 0 || strspn(name + 2, "0123456789abcdefABCDEF") != len - 2)
         return false;
-    memcpy(text, name, len + 1);
-    return true;
+    for (const char *at = name + 2; *at != 0; at += 2) {
+        const char digits[] = {at[0], at[1], 0};
+        bytes[count++] = (char)strtoul(digits, NULL, 16);
+    }
+    return write_name(bytes, count, text);
+}
+
+/* Connects and asks. That the service has gone is noticed when its answer is read. */
+static bool ask(struct link *link, const char *address, const char *text) {
+    bool is_open = link_open(link, address);
+    if (is_open)
+        link_send(link, text);
+    return is_open;
 }
 
 int run_who(int count, char **words) {
@@ -126,7 +139,7 @@ int run_who(int count, char **words) {
     if (count - optind > 1 || (optind < count && !write_asked(words[optind], name)))
         return wrong_words(who_usage);
     snprintf(text, sizeof text, "who %s\n", name);
-    if (!link_open(&link, address) || !link_send(&link, text))
+    if (!ask(&link, address, text))
         return NO_SERVICE;
     return print_rows(&link, &shown);
 }
@@ -138,7 +151,7 @@ int run_metrics(int count, char **words) {
     int from = read_address(count, words, &address);
     if (from == 0 || from != count)
         return wrong_words(metrics_usage);
-    if (!link_open(&link, address) || !link_send(&link, "metrics\n"))
+    if (!ask(&link, address, "metrics\n"))
         return NO_SERVICE;
     int got;
     while ((got = link_line(&link, line, FOREVER)) == 1 && line[0] != 0)
@@ -154,10 +167,11 @@ int run_kill(int count, char **words) {
     if (from == 0 || from != count - 1 || strlen(words[from]) != 16 || strspn(words[from], "0123456789abcdef") != 16)
         return wrong_words(kill_usage);
     snprintf(line, sizeof line, "kill %s\n", words[from]);
-    if (!link_open(&link, address) || !link_send(&link, line))
+    if (!ask(&link, address, line))
         return NO_SERVICE;
-    if (link_line(&link, line, FOREVER) == 1 && strcmp(line, "killed") == 0)
-        return 0;
+    int got = link_line(&link, line, FOREVER);
+    if (got != 1 || strcmp(line, "killed") == 0)
+        return end_output(got);
     fprintf(stderr, "vlm kill: %s\n", line);
-    return 1;
+    return strcmp(line, "not allowed") == 0 || strcmp(line, "no such session") == 0 ? 1 : NO_SERVICE;
 }
