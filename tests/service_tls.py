@@ -1,5 +1,5 @@
 """TLS of vlmd: a replica over a list in memory, clients with right and wrong certificates, bytes that are cut or wrong,
-and rights by name. Certificates are made by the commands of docs/CLUSTER.md."""
+and rights by name. Certificates are made by the commands of docs/CERTIFICATES.md."""
 
 import os
 import random

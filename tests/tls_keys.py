@@ -1,4 +1,4 @@
-"""Certificates for tests, made by the commands of docs/CLUSTER.md, and a client that speaks lines over TLS."""
+"""Certificates for tests, made by the commands of docs/CERTIFICATES.md, and a client that speaks lines over TLS."""
 
 import re
 import socket
@@ -28,7 +28,7 @@ openssl x509 -req -in late.csr -CA locks.pem -CAkey locks.key -days 0 -copy_exte
 
 def page_commands():
     """The commands of the page, for this machine instead of the first of three."""
-    page = (TOP / "docs" / "CLUSTER.md").read_text()
+    page = (TOP / "docs" / "CERTIFICATES.md").read_text()
     commands = re.search(r"^```sh\n(authority\(\).*?)^```", page, re.M | re.S)[1]
     return commands.replace("10.0.0.1", HOST).replace("m1.example", "localhost")
 
