@@ -58,7 +58,7 @@ def over_etcd():
             Test("settings of replicas", runs("test_settings.py")),
             Test("the sessions of the page", runs("test_page.py")),
             *[Test("TLS to clients and to etcd", runs(WITH_KEYS))] * library.has_openssl(),
-            Test("a leader of etcd that hangs", runs("hang.py", "--clients", 12, "--seconds", 5, "--lease", 5)),
+            Test("a leader of etcd that hangs", runs("hang.py", "--clients", 12, "--seconds", 5, "--lease", 20)),
             Test("leases while etcd's leader or their clients hang",
                  runs("leases.py", "--pairs", 10, "--fault", "leader for long", "--fault", "clients")),
             *replicated_clients.tests(),
