@@ -60,7 +60,6 @@ void dispatcher_close(struct dispatcher *dispatcher) {
     free(dispatcher->sessions);
     free(dispatcher->requests);
     free(dispatcher->tokens);
-    free(dispatcher->spare);
     free(dispatcher);
 }
 

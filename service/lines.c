@@ -159,7 +159,7 @@ static struct heard *read_with_handle(const struct client *client, struct word c
     if (!find_handle(command, rest, &handle) || !decimal(handle, UINT64_MAX, &number)) {
         struct heard *heard = read_line(dispatcher, whole);
         if (heard != NULL && heard->line.fault == 0)
-            keep_line(client, whole, &heard->line);
+            keep_line(client, &heard->line);
         return heard;
     }
     char text[LINE + NUMBER_DIGITS], digits[NUMBER_DIGITS];
@@ -196,7 +196,7 @@ static void run_read_line(struct client *client, struct heard *heard) {
     }
     if (!is_reading && is_repeated(client))
         return;
-    if (!is_reading && !reserve_step(client)) {
+    if (!is_reading && !make_ring(client)) {
         end_without_memory(client->dispatcher);
         answer_text(client, "no memory\n");
         return;
@@ -205,9 +205,9 @@ static void run_read_line(struct client *client, struct heard *heard) {
     if ((binding == NULL) != (line->kind == VLM_LINE_DECLARE))
         answer_text(client, faults[binding == NULL ? VLM_FAULT_UNKNOWN_NAME : VLM_FAULT_NAME_USED]);
     else if (is_reading)
-        run_reading(client, line);
+        run_reading(client, line, binding->process);
     else
-        run_step(client, line);
+        run_step(client, line, binding);
 }
 
 /* Whether a line has to wait: requests do while the dispatcher is quiet. */
@@ -258,7 +258,8 @@ bool run_line(struct client *client, const char *bytes, size_t len) {
     }
     client->line = bytes;
     client->line_len = len;
-    struct heard *heard = known_line(client, (struct word){bytes, len});
+    client->line_hash = hash_line(client, (struct word){bytes, len});
+    struct heard *heard = known_line(client);
     if (heard == NULL)
         return run_unknown(client);
     if (has_to_wait(client, heard->line.kind == VLM_LINE_ENQ))

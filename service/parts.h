@@ -47,9 +47,9 @@ enum {
     KEPT_ROOM = 256, /* of a client's output between two answers */
     NUMBER_DIGITS = 20,
     PAIR = 512, /* bytes of an AST and its block line */
-    KNOWN_BITS = 9,
+    KNOWN_BITS = 10,
     KNOWN_PLACES = 1 << KNOWN_BITS,
-    KNOWN_WAYS = 2,   /* lines at a place */
+    KNOWN_WAYS = 4,   /* lines at a place */
     KNOWN_BYTES = 120 /* of a known line at most */
 };
 
@@ -80,24 +80,25 @@ struct block_use {
     uint32_t lkid;
 };
 
-/* A process of the lock manager. */
+/* A process of the lock manager. Without a session only its pid, its index and its pool count. What each step needs comes
+ * first, as in sessions and clients: with many of them it is in no near cache, and what lies together is fetched at
+ * once. */
 struct process {
     uint32_t pid;
-    uint32_t index; /* in the order of making */
-    struct pool *pool;
-    struct process *next_free;
-    /* The session that has it, or null; the rest counts while there is one. */
-    struct session *session;
-    uint8_t name[NAME];
-    uint32_t name_len;
-    uint64_t number; /* what clients see in the place of the pid */
     uint32_t quota;
     uint32_t blocks; /* as declared */
     uint32_t locks;
-    uint8_t named[BLOCK_BITS]; /* the blocks that an accepted request has named */
-    uint8_t set[BLOCK_BITS];   /* the blocks whose value part may not be zeros */
+    struct session *session;   /* that has it, or null */
     struct block_use *uses;    /* of each block */
     struct old_block *old;     /* of an earlier lock manager, or null */
+    uint8_t named[BLOCK_BITS]; /* the blocks that an accepted request has named */
+    uint8_t set[BLOCK_BITS];   /* the blocks whose value part may not be zeros */
+    uint64_t number;           /* what clients see in the place of the pid */
+    uint8_t name[NAME];
+    uint32_t name_len;
+    uint32_t index; /* in the order of making */
+    struct pool *pool;
+    struct process *next_free;
 };
 
 /* The free processes that are alike. */
@@ -109,6 +110,15 @@ struct pool {
     struct pool *next;
 };
 
+/* A numbered step: its line, and what that was answered. */
+struct step {
+    uint64_t number;
+    uint64_t hash;  /* of the line */
+    uint64_t given; /* what the answer names: the handle of a lock, the number of a process, or 0 */
+    uint32_t status;
+    uint32_t line_len;
+};
+
 /* A name of a session; the process is null once it has ended. */
 struct binding {
     uint8_t name[NAME];
@@ -116,24 +126,24 @@ struct binding {
 };
 
 struct session {
-    uint64_t name;
     struct dispatcher *dispatcher;
-    struct rights rights;
     struct user *user;
-    struct client *client;           /* null between connections */
-    uint32_t seconds;                /* how long it waits for a resume */
+    struct client *client; /* null between connections */
+    uint64_t number;       /* of its last step */
+    struct step *steps;    /* a ring of the last steps whose lines had numbers, or null */
+    struct binding *bindings;
+    uint32_t binding_count, binding_room;
+    uint32_t next_step; /* in the ring */
+    uint32_t seconds;   /* how long it waits for a resume */
+    uint64_t name;
+    struct rights rights;
     uint64_t until;                  /* without a client: when it ends */
     bool is_killed;                  /* of a replica: no beat keeps its lease any more */
     uint64_t beat;                   /* of a replica: the place of the last beat */
     uint64_t heard, overdue;         /* of a replica: when that came by, and since when the lease is over, or 0 */
     struct session *previous, *next; /* of the sessions without a client */
-    uint64_t number;                 /* of its last step */
-    struct step **steps;             /* a ring of the last steps whose lines had numbers, or null */
-    uint32_t next_step;              /* in that ring */
-    struct binding *bindings;
-    uint32_t binding_count, binding_room;
-    uint64_t asts;  /* how many it was told */
-    uint8_t **kept; /* the last ASTs, if it may be resumed */
+    uint64_t asts;                   /* how many it was told */
+    uint8_t **kept;                  /* the last ASTs, if it may be resumed */
     char label[LABEL];
 };
 
@@ -145,20 +155,12 @@ struct place {
 
 struct client {
     struct dispatcher *dispatcher;
-    struct rights rights;
-    struct user *user;
     struct session *session; /* or null */
-    void *context;
-    uint32_t salt; /* of the names of its sessions */
-    uint8_t *in;   /* bytes that no line was made of yet */
-    size_t in_from, in_len, in_room;
-    uint8_t *out;
-    size_t out_from, out_len, out_room;
-    size_t out_long;        /* unsent bytes up to the end of the last long answer: MOST_UNSENT does not count them */
-    bool is_told_at_length; /* a long answer is being put: `queued` limits it, and MOST_UNSENT does not */
+    struct user *user;
     /* The line that is run. */
     const char *line; /* without its number */
     size_t line_len;
+    uint64_t line_hash;
     uint64_t line_number;
     bool has_number;
     /* What is known of the client. */
@@ -169,6 +171,15 @@ struct client {
     bool is_long;     /* the bytes up to the next line feed are too many */
     bool is_detached; /* it is another replica's, or its connection has ended */
     bool is_ready, is_changed;
+    struct rights rights;
+    void *context;
+    uint32_t salt; /* of the names of its sessions */
+    uint8_t *in;   /* bytes that no line was made of yet */
+    size_t in_from, in_len, in_room;
+    uint8_t *out;
+    size_t out_from, out_len, out_room;
+    size_t out_long;        /* unsent bytes up to the end of the last long answer: MOST_UNSENT does not count them */
+    bool is_told_at_length; /* a long answer is being put: `queued` limits it, and MOST_UNSENT does not */
     struct client *previous, *next; /* of all clients */
     struct client *next_ready, *next_changed;
 };
@@ -208,9 +219,10 @@ struct known_line {
     struct heard heard;
 };
 
-/* The last lines that have come to one place, and which of them goes when another one comes. */
+/* The last lines that have come to one place, and which of them goes when another one comes. The tags are parts of their
+ * hashes, so that most other lines are not looked at. */
 struct known_place {
-    uint32_t next;
+    uint32_t next, tags[KNOWN_WAYS];
     struct known_line lines[KNOWN_WAYS];
 };
 
@@ -252,7 +264,6 @@ struct dispatcher {
     struct heard *heard;  /* the line that is run */
     struct heard unknown; /* a line that was not known */
     vlm_line shown;       /* names a process whose AST or block is printed */
-    struct step *spare;   /* by which the step of a numbered line is surely kept, or null */
     struct counts counts;
     struct known_place known[KNOWN_PLACES];
 };
@@ -278,17 +289,24 @@ bool is_word(struct word word, const char *text);
 bool keyed(struct word word, const char *key, struct word *rest);
 bool decimal(struct word word, uint64_t most, uint64_t *number);
 
-/* known_lines.c. known_line: what was read of a client's line before, or null. read_line: what a line is, or null if it
- * has too many bytes. keep_line: keeps what was read of a client's line. All without the numbers of lines. */
-struct heard *known_line(const struct client *client, struct word text);
+/* Mixes up to eight bytes into a hash, by an odd factor with many bits. */
+static inline uint64_t mix_in(uint64_t hash, uint64_t bytes) {
+    hash = (hash ^ bytes) * UINT64_C(0x9E3779B97F4A7C15);
+    return hash ^ hash >> 32;
+}
+
+/* known_lines.c. hash_line: a hash of a client's line, by a random key. known_line: what was read of the client's line
+ * before, or null. read_line: what a line is, or null if it has too many bytes. keep_line: keeps what was read of the
+ * client's line. All without the numbers of lines. */
+uint64_t hash_line(const struct client *client, struct word text);
+struct heard *known_line(const struct client *client);
 struct heard *read_line(struct dispatcher *dispatcher, struct word text);
-void keep_line(const struct client *client, struct word text, const vlm_line *line);
+void keep_line(const struct client *client, const vlm_line *line);
 
 /* repeats.c */
 bool is_repeated(struct client *client);
-bool reserve_step(struct client *client);
+bool make_ring(struct client *client);
 void keep_step(struct client *client, uint32_t status, uint64_t given);
-void free_steps(struct session *session);
 
 /* sessions.c */
 bool run_session_line(struct client *client, const struct word *words, size_t count);
@@ -299,9 +317,9 @@ void end_left_sessions(struct dispatcher *dispatcher);
 struct session *find_session(struct dispatcher *dispatcher, struct word name);
 
 /* steps.c and readings.c */
-void run_step(struct client *client, const vlm_line *line);
+void run_step(struct client *client, const vlm_line *line, struct binding *binding);
 void tell_answer(struct client *client, uint32_t status, uint64_t given);
-void run_reading(struct client *client, const vlm_line *line);
+void run_reading(struct client *client, const vlm_line *line, const struct process *process);
 struct binding *find_binding(struct session *session, const uint8_t *name);
 void show(struct client *client, bool is_tails);
 
@@ -314,7 +332,7 @@ bool run_lock_line(struct client *client, const struct word *words, size_t count
 
 /* tokens.c */
 bool reserve_token(struct dispatcher *dispatcher);
-void note_lock(struct dispatcher *dispatcher, uint32_t lkid);
+void note_lock(struct dispatcher *dispatcher, uint32_t lkid, bool is_granted);
 void give_token(struct dispatcher *dispatcher, struct request *record);
 void take_token(struct dispatcher *dispatcher, struct request *record);
 uint64_t token_of(const struct dispatcher *dispatcher, uint32_t lkid);

@@ -66,9 +66,8 @@ void accept_new(struct dispatcher *dispatcher, uint32_t place, uint32_t lkid, bo
     if (lkid > dispatcher->last_lkid)
         dispatcher->last_lkid = lkid;
     count_lock(record->process, true);
-    note_lock(dispatcher, lkid);
-    if (is_granted)
-        give_token(dispatcher, record);
+    note_lock(dispatcher, lkid, is_granted);
+    record->has_token = is_granted;
 }
 
 /* The manager has accepted a conversion. If it was granted at once, it takes its token before those that its step has

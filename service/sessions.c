@@ -186,7 +186,7 @@ static void free_session(struct session *session) {
     for (uint32_t at = 0; session->kept != NULL && at < KEPT_ASTS; at++)
         free(session->kept[at]);
     free(session->kept);
-    free_steps(session);
+    free(session->steps);
     free(session->bindings);
     free(session);
 }

@@ -130,6 +130,13 @@ static uint32_t told_status(const vlm_line *line, uint32_t status) {
     return status == VLM_SYNCH && (line->request.flags & VLM_SYNCSTS) == 0 ? VLM_NORMAL : status;
 }
 
+/* The request of a line. Its reserved words are zeros, and are not fetched. */
+static vlm_request request_of(const vlm_line *line) {
+    vlm_request request = {0};
+    memcpy(&request, &line->request, offsetof(vlm_request, reserved));
+    return request;
+}
+
 /* Asks for a new lock or converts one. */
 static void ask(struct client *client, const vlm_line *line, struct process *process) {
     struct dispatcher *dispatcher = client->dispatcher;
@@ -139,7 +146,7 @@ static void ask(struct client *client, const vlm_line *line, struct process *pro
         answer_text(client, refusal);
         return;
     }
-    vlm_request request = line->request;
+    vlm_request request = request_of(line);
     bool is_new = line->kind == VLM_LINE_ENQ;
     uint32_t lkid = 0, status = is_new && is_over_quota(process) ? VLM_EXENQLM : VLM_INSFMEM;
     request.pid = process->pid;
@@ -159,7 +166,9 @@ static void ask(struct client *client, const vlm_line *line, struct process *pro
     if (place != NOBODY && status != VLM_NORMAL)
         drop_request(dispatcher, place);
     answer_step(client, told_status(line, status), handle_of(dispatcher, lkid));
-    tell(dispatcher);
+    /* (a new lock that is granted at once causes no AST) */
+    if (!is_new || status != VLM_SYNCH)
+        tell(dispatcher);
     if (status == VLM_NORMAL)
         wait_if_queued(dispatcher, place, lkid);
 }
@@ -205,15 +214,12 @@ static void end(struct client *client, struct binding *binding) {
     release_process(process);
 }
 
-/* Makes a step of the client's session. The name of the line is bound, except that of a declaration. */
-void run_step(struct client *client, const vlm_line *line) {
+/* Makes a step of the client's session. The name of the line has this binding, that of a declaration none. */
+void run_step(struct client *client, const vlm_line *line, struct binding *binding) {
     client->dispatcher->counts.steps++;
-    if (line->kind == VLM_LINE_DECLARE) {
+    if (binding == NULL)
         declare(client, line);
-        return;
-    }
-    struct binding *binding = find_binding(client->session, line->name);
-    if (binding->process == NULL)
+    else if (binding->process == NULL)
         answer_step(client, VLM_NONEXPR, 0);
     else if (line->kind == VLM_LINE_ENQ || line->kind == VLM_LINE_CVT)
         ask(client, line, binding->process);

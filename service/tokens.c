@@ -18,11 +18,12 @@ uint32_t dispatcher_epoch(const struct dispatcher *dispatcher) {
     return reached > dispatcher->epoch ? reached : dispatcher->epoch;
 }
 
-/* Where a search for a lock begins. The random factor spreads chosen IDs too. */
+/* Where a search for a lock begins. IDs follow each other, and clients choose which ones stay: two random keys with a
+ * mixing between them keep any of them from coming together. */
 static size_t home_of(const struct dispatcher *dispatcher, uint32_t lkid) {
-    uint64_t factor;
-    memcpy(&factor, dispatcher->keys, sizeof factor);
-    return (size_t)(lkid * (factor | 1) >> 32) & (dispatcher->token_room - 1);
+    uint64_t keys[2];
+    memcpy(keys, dispatcher->keys, sizeof keys);
+    return (size_t)(mix_in(lkid, keys[0]) * (keys[1] | 1) >> 32) & (dispatcher->token_room - 1);
 }
 
 /* The place of a lock, or the free one where it would be. */
@@ -42,10 +43,10 @@ static void add(struct dispatcher *dispatcher, struct token token) {
 
 /* A lock is gone: its place gets free. Locks that were put behind it because it was taken move up. */
 void forget_token(struct dispatcher *dispatcher, uint32_t lkid) {
-    if (dispatcher->token_room == 0 || place_of(dispatcher, lkid)->lkid == 0)
+    struct token *tokens = dispatcher->tokens, *place = tokens != NULL ? place_of(dispatcher, lkid) : NULL;
+    if (place == NULL || place->lkid == 0)
         return;
-    struct token *tokens = dispatcher->tokens;
-    size_t last = dispatcher->token_room - 1, gap = (size_t)(place_of(dispatcher, lkid) - tokens);
+    size_t last = dispatcher->token_room - 1, gap = (size_t)(place - tokens);
     for (size_t at = (gap + 1) & last; tokens[at].lkid != 0; at = (at + 1) & last)
         if (((at - home_of(dispatcher, tokens[at].lkid)) & last) >= ((at - gap) & last)) {
             tokens[gap] = tokens[at];
@@ -90,8 +91,10 @@ bool reserve_token(struct dispatcher *dispatcher) {
     return dispatcher->token_count < dispatcher->token_room / 4 * 3 || make_anew(dispatcher);
 }
 
-/* A new lock, for which a place was reserved. It has no token until its request is granted. */
-void note_lock(struct dispatcher *dispatcher, uint32_t lkid) { add(dispatcher, (struct token){.lkid = lkid}); }
+/* A new lock, for which a place was reserved. It takes a token if its request is granted, and has none until then. */
+void note_lock(struct dispatcher *dispatcher, uint32_t lkid, bool is_granted) {
+    add(dispatcher, (struct token){.lkid = lkid, .number = is_granted ? ++dispatcher->token : 0});
+}
 
 /* Gives a lock the next token: its request has ended well. */
 void give_token(struct dispatcher *dispatcher, struct request *record) {

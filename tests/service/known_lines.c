@@ -35,6 +35,14 @@ static void send(struct word line) {
     client_sent(client, len);
 }
 
+/* What is known of a line. */
+static struct heard *known(struct word line) {
+    client->line = line.bytes;
+    client->line_len = line.len;
+    client->line_hash = hash_line(client, line);
+    return known_line(client);
+}
+
 /* How many lines of a form are known after all of them have come. */
 static int known_of(const char *form) {
     char text[ROOM];
@@ -42,7 +50,7 @@ static int known_of(const char *form) {
     for (int number = 0; number < LINES; number++)
         send(line_of(form, number, text));
     for (int number = 0; number < LINES; number++)
-        count += known_line(client, line_of(form, number, text)) != NULL;
+        count += known(line_of(form, number, text)) != NULL;
     return count;
 }
 
@@ -52,7 +60,7 @@ static ptrdiff_t place_by(uint8_t key) {
     struct word line = line_of("deq P @#", 1, text);
     start(key);
     send(line);
-    ptrdiff_t place = (const char *)known_line(client, line) - (const char *)dispatcher->known;
+    ptrdiff_t place = (const char *)known(line) - (const char *)dispatcher->known;
     dispatcher_close(dispatcher);
     return place;
 }
