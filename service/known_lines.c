@@ -1,7 +1,7 @@
 /* Lines that were read lately. Programs repeat their lines: they lock the same resources again and again. What
- * vlm_read_line makes of a line depends on its bytes alone, so it is kept until four other lines come to the same place.
- * Each UIC group has lines of its own, and places are chosen by a random key: nobody can tell by the time of an answer
- * which names another group uses. */
+ * vlm_read_line makes of a line depends on its bytes alone, so it is kept until four other lines come to the same
+ * place. Each UIC group has lines of its own, and places are chosen by a random key: nobody can tell by the time of an
+ * answer which names another group uses. */
 #include "parts.h"
 
 #include <string.h>

@@ -80,9 +80,9 @@ struct block_use {
     uint32_t lkid;
 };
 
-/* A process of the lock manager. Without a session only its pid, its index and its pool count. What each step needs comes
- * first, as in sessions and clients: with many of them it is in no near cache, and what lies together is fetched at
- * once. */
+/* A process of the lock manager. Without a session only its pid, its index and its pool count. What each step needs
+ * comes first, as in sessions and clients: with many of them it is in no near cache, and what lies together is fetched
+ * at once. */
 struct process {
     uint32_t pid;
     uint32_t quota;
@@ -219,8 +219,8 @@ struct known_line {
     struct heard heard;
 };
 
-/* The last lines that have come to one place, and which of them goes when another one comes. The tags are parts of their
- * hashes, so that most other lines are not looked at. */
+/* The last lines that have come to one place, and which of them goes when another one comes. The tags are parts of
+ * their hashes, so that most other lines are not looked at. */
 struct known_place {
     uint32_t next, tags[KNOWN_WAYS];
     struct known_line lines[KNOWN_WAYS];

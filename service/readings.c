@@ -21,8 +21,8 @@ static void hide(const struct process *process, uint32_t block, vlm_text *text) 
     replace_word(text, STATUS_WORD, shown.status);
 }
 
-/* `block P N` and `tail P N`, of a process or of one that has ended: null. A status block that was not declared does not
- * exist. */
+/* `block P N` and `tail P N`, of a process or of one that has ended: null. A status block that was not declared does
+ * not exist. */
 void run_reading(struct client *client, const vlm_line *line, const struct process *process) {
     vlm *manager = &client->dispatcher->manager;
     vlm_text text = {.size = sizeof text};

@@ -1,5 +1,5 @@
-/* Tokens of a dispatcher without a daemon. The last one never gets smaller, and may go beyond the tokens of an epoch. The
- * table of tokens is spread well by all keys: a long row of taken places would be searched in each step. */
+/* Tokens of a dispatcher without a daemon. The last one never gets smaller, and may go beyond the tokens of an epoch.
+ * The table of tokens is spread well by all keys: a long row of taken places would be searched in each step. */
 #include "parts.h"
 
 #include <inttypes.h>
