@@ -14,10 +14,10 @@
 
 #include <sched.h>
 
-/* A thread that looks at the mutex pauses this often in all, some 50 microseconds: once after its first look, then
+/* A thread that looks at the mutex pauses this often in all, some 100 microseconds: once after its first look, then
  * twice, four times and so on, to this many times at once. Fewer looks disturb the owner less. It yields this often,
  * while the mutex does not change hands, before it sleeps. */
-enum { PAUSES = 1000, MOST_AT_ONCE = 256, YIELDS = 8 };
+enum { PAUSES = 2000, MOST_AT_ONCE = 512, YIELDS = 8 };
 
 static void pause_often(int times) {
     while (times-- > 0)
