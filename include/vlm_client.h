@@ -57,7 +57,8 @@ typedef struct vlm_client_options {
     uint32_t reserved[7];
     /* With addresses as in tls:HOST:PORT, files in PEM's form: the certificate that the client shows, its key, and the
      * authority that has signed those of the replicas. Null: the file that VLM_TLS_CERTIFICATE, VLM_TLS_KEY or
-     * VLM_TLS_AUTHORITY names in the environment. They are read again for each connection. */
+     * VLM_TLS_AUTHORITY names in the environment. They are read again for each connection. A program that has other
+     * rights than its user (setuid, setgid) ignores these variables, and VLM_SOCKET too. */
     const char *certificate;
     const char *key;
     const char *authority;
