@@ -14,14 +14,16 @@ static uint64_t part_of(const char *bytes, size_t len) {
     return part;
 }
 
+/* The factor is random too: by a known one alone, two lines could have one hash by every key, since the next part can
+ * undo what differs in the high bits of a part. */
 uint64_t hash_line(const struct client *client, struct word text) {
-    uint64_t hash;
-    memcpy(&hash, client->dispatcher->keys, sizeof hash);
-    hash = mix_in(hash, client->rights.group);
+    uint64_t keys[2];
+    memcpy(keys, client->dispatcher->keys, sizeof keys);
+    uint64_t hash = mix_in(keys[0], client->rights.group), factor = keys[1] | 1;
     if (text.len < PART)
         return mix_in(hash, part_of(text.bytes, text.len));
     for (size_t at = 0; at + PART < text.len; at += PART)
-        hash = mix_in(hash, part_of(text.bytes + at, PART));
+        hash = mix_in(hash, part_of(text.bytes + at, PART)) * factor;
     return mix_in(hash, part_of(text.bytes + text.len - PART, PART));
 }
 

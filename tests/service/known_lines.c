@@ -1,5 +1,5 @@
 /* Lines that the dispatcher remembers: most of a hundred that are alike, wherever they differ. Their places can't be
- * foretold: other keys give others. */
+ * foretold: other keys give others. Two lines have one hash by no key, also if one was made for that. */
 #include "parts.h"
 
 #include <stdio.h>
@@ -22,7 +22,9 @@ static struct word line_of(const char *form, int number, char text[ROOM]) {
 static void start(uint8_t key) {
     static const struct limits limits = USUAL_LIMITS;
     const struct rights rights = {.group = 1};
-    const uint8_t keys[KEYS] = {key, 2, 3};
+    uint8_t keys[KEYS];
+    for (size_t at = 0; at < KEYS; at++)
+        keys[at] = (uint8_t)((key + at) * (key + at) * 157 >> 3);
     dispatcher = dispatcher_open(&limits, 0, keys, be_silent);
     client = client_open(dispatcher, &rights, 0, dispatcher);
 }
@@ -65,6 +67,20 @@ static ptrdiff_t place_by(uint8_t key) {
     return place;
 }
 
+/* Whether a line and one with other high bits in three bytes, of two parts that follow each other, have one hash by a
+ * key. */
+static bool have_one_hash(uint8_t key, char bit) {
+    char text[] = "enq P EX name=a0bbb0bbb0 block=1";
+    const struct word line = {text, strlen(text)};
+    start(key);
+    uint64_t hash = hash_line(client, line);
+    for (size_t at = 15; at <= 23; at += 4)
+        text[at] ^= bit;
+    bool is_one = hash_line(client, line) == hash;
+    dispatcher_close(dispatcher);
+    return is_one;
+}
+
 int main(void) {
     static const char *const forms[] = {"deq P @#",
                                         "block P #",
@@ -86,5 +102,10 @@ int main(void) {
         puts("another key gives a line the same place");
         wrong++;
     }
+    for (uint8_t key = 1; key <= LINES; key++)
+        if (have_one_hash(key, 1 << 6) || have_one_hash(key, (char)(1 << 7))) {
+            printf("two lines have one hash by the key %d\n", key);
+            wrong++;
+        }
     return wrong != 0;
 }
