@@ -1,5 +1,5 @@
 /* Lines that the dispatcher remembers: most of a hundred that are alike, wherever they differ. Their places can't be
- * foretold: other keys give others. Two lines have one hash by no key, also if one was made for that. */
+ * foretold: other keys give others. Two lines that were made for it have one hash by none of a hundred keys. */
 #include "parts.h"
 
 #include <stdio.h>
