@@ -69,13 +69,13 @@ static ptrdiff_t place_by(uint8_t key) {
 
 /* Whether a line and one with other high bits in three bytes, of two parts that follow each other, have one hash by a
  * key. */
-static bool have_one_hash(uint8_t key, char bit) {
+static bool have_one_hash(uint8_t key, uint8_t bit) {
     char text[] = "enq P EX name=a0bbb0bbb0 block=1";
     const struct word line = {text, strlen(text)};
     start(key);
     uint64_t hash = hash_line(client, line);
     for (size_t at = 15; at <= 23; at += 4)
-        text[at] ^= bit;
+        text[at] = (char)(text[at] ^ bit);
     bool is_one = hash_line(client, line) == hash;
     dispatcher_close(dispatcher);
     return is_one;
@@ -102,8 +102,8 @@ int main(void) {
         puts("another key gives a line the same place");
         wrong++;
     }
-    for (uint8_t key = 1; key <= LINES; key++)
-        if (have_one_hash(key, 1 << 6) || have_one_hash(key, (char)(1 << 7))) {
+    for (int key = 1; key <= LINES; key++)
+        if (have_one_hash((uint8_t)key, 1 << 6) || have_one_hash((uint8_t)key, 1 << 7)) {
             printf("two lines have one hash by the key %d\n", key);
             wrong++;
         }
