@@ -14,8 +14,8 @@ static uint64_t part_of(const char *bytes, size_t len) {
     return part;
 }
 
-/* The factor is random too: by a known one alone, two lines could have one hash by every key, since the next part can
- * undo what differs in the high bits of a part. */
+/* The factor is random too. With a known one, the next part of a line could undo a chosen difference in a part, so that
+ * two lines have one hash by every key. */
 uint64_t hash_line(const struct client *client, struct word text) {
     uint64_t keys[2];
     memcpy(keys, client->dispatcher->keys, sizeof keys);
@@ -27,8 +27,8 @@ uint64_t hash_line(const struct client *client, struct word text) {
     return mix_in(hash, part_of(text.bytes + text.len - PART, PART));
 }
 
-/* The place of the client's line, or null for one that is too long to be kept. The last bytes of a line change only the
- * high bits of a product, and alike lines often differ there. */
+/* The place of the client's line, or null for one that is too long to be kept. Alike lines often differ in their last
+ * bytes, which change the high bits of a hash most, so these tell the place. */
 static struct known_place *place_of(const struct client *client) {
     return client->line_len <= KNOWN_BYTES ? &client->dispatcher->known[client->line_hash >> REST_BITS] : NULL;
 }

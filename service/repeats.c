@@ -1,5 +1,5 @@
-/* Numbered lines that come again: a session keeps its last numbered steps. A step has its line by length and hash: a
- * line that is another one has the same hash once in 2^64 times, and once in some 2^32 if somebody has chosen it so. */
+/* Numbered lines that come again: a session keeps its last numbered steps. A step has its line by length and hash.
+ * Another line has the same hash once in 2^64 times, and a client that searches for one fools itself alone. */
 #include "parts.h"
 
 #include <stdlib.h>

@@ -1,5 +1,5 @@
-/* Records of requests. The service gives each request a completion AST of its own, whose routine is the place of the
- * record, so it knows when each request ends; a client hears of it if it asked for an AST. */
+/* Records of requests. Each request names a completion AST of the service's own, whose routine is the place of the
+ * record, so the service knows when a request that waited has ended. A client hears of it if it asked for an AST. */
 #include "parts.h"
 
 #include <stdio.h>
