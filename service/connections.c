@@ -210,19 +210,28 @@ bool let_in(struct connection *connection, const struct rights *rights) {
     return connection->link != NULL;
 }
 
+/* Closes a connection that the daemon can't serve. */
+static void turn_away(int descriptor) {
+    write_log("a connection is closed at once: there is no memory for it");
+    close(descriptor);
+}
+
 static void welcome(const struct listener *listener, int descriptor) {
     struct rights rights;
-    struct connection *connection = calloc(1, sizeof *connection);
-    if (connection == NULL || !find_rights(listener, descriptor, &rights)
-        || uv_poll_init(&vlmd.loop, &connection->poll, descriptor) != 0) {
+    if (!find_rights(listener, descriptor, &rights)) {
         close(descriptor);
+        return;
+    }
+    struct connection *connection = calloc(1, sizeof *connection);
+    if (connection == NULL || uv_poll_init(&vlmd.loop, &connection->poll, descriptor) != 0) {
+        turn_away(descriptor);
         free(connection);
         return;
     }
     connection->poll.data = connection;
     connection->descriptor = descriptor;
     if (listener->is_tcp && has_tls() ? !secure(connection) : !let_in(connection, &rights)) {
-        close(descriptor);
+        turn_away(descriptor);
         uv_close((uv_handle_t *)&connection->poll, forget);
     }
 }

@@ -28,6 +28,7 @@ import service_tokens
 from daemons import CHECKED, DISPATCHER, NOBODY, PLAIN, Client, Daemon
 from harness import PLAY, ROOM, TOP, Test, difference
 from service_scripts import MODES
+from time_of_day import FAKED_TIME, TimeOfDay
 
 HERE = Path(__file__).resolve().parent / "service"
 CLIENT = sorted((TOP / "bindings" / "c").glob("vlm_client*.c"))
@@ -39,8 +40,6 @@ LISTS = 200
 STORM_SECONDS = 6
 SANITIZED = ("-fsanitize=address,undefined", "-fno-sanitize-recover=all")
 ZEROS = 32 * "0"
-# Gives a program another time of day.
-FAKED_TIME = Path("/usr/lib/x86_64-linux-gnu/faketime/libfaketime.so.1")
 
 
 def needed():
@@ -419,23 +418,15 @@ def repeated(_program):
 def set_clock(_program):
     """What is wrong after the clock that tells the time of day has jumped: a session waits as long as it was told, and
     deadlocks are searched for."""
-    with tempfile.NamedTemporaryFile("w", dir=ROOM().name) as clock:
-        def jump(seconds):
-            clock.seek(0)
-            clock.write(f"{seconds:+d}\n")
-            clock.flush()
-
-        jump(0)
-        env = {"LD_PRELOAD": str(FAKED_TIME), "FAKETIME_TIMESTAMP_FILE": clock.name, "FAKETIME_NO_CACHE": "1",
-               "FAKETIME_DONT_FAKE_MONOTONIC": "1", "DONT_FAKE_MONOTONIC": "1"}
-        with Daemon("search 300", made=PLAIN, env=env) as daemon, daemon.client().begin("P", "Q") as other:
+    with TimeOfDay() as clock:
+        with Daemon("search 300", made=PLAIN, env=clock.env) as daemon, daemon.client().begin("P", "Q") as other:
             with daemon.client() as client:
                 name = client.ask("open seconds=60").split()[1]
                 client.ask("declare R")
-            jump(86_400)
+            clock.jump(86_400)
             with daemon.client() as client:
                 yield from difference(client.ask(f"resume {name}"), f"session {name} seconds 60 number 1 asts 0")
-            jump(-86_400)
+            clock.jump(-86_400)
             for line in ("enq P PR name=A block=1", "enq Q PR name=A block=1", "cvt P @1 EX block=1 ast=1",
                          "cvt Q @1 EX block=1 ast=1"):
                 other.ask(line)
@@ -845,6 +836,25 @@ def idle(_program):
             client.close()
 
 
+def turned_away(_program):
+    """Connections for which there is no memory are closed at once, and the log says so. Those before them go on, and
+    others are let in when there is memory again."""
+    with Daemon("connections 5000", made=PLAIN) as daemon, daemon.client().begin("P") as first:
+        size = int(re.search("VmSize:[ \t]+([0-9]+) kB", Path(f"/proc/{daemon.run.pid}/status").read_text())[1]) << 10
+        resource.prlimit(daemon.run.pid, resource.RLIMIT_AS, (size, resource.RLIM_INFINITY))
+        let_in = []
+        while len(let_in) < 5000 and (client := daemon.client()).greeting is not None:
+            let_in.append(client)
+        yield from difference((0 < len(let_in) < 5000, first.ask("deq P 1")), (True, "P: IVLOCKID"))
+        if "a connection is closed at once: there is no memory for it" not in daemon.log.read_text():
+            yield "the log does not tell of it"
+        resource.prlimit(daemon.run.pid, resource.RLIMIT_AS, (resource.RLIM_INFINITY, resource.RLIM_INFINITY))
+        with daemon.client() as client:
+            yield from difference(client.greeting, "vlm protocol 1 epoch 0")
+        for client in let_in:
+            client.close()
+
+
 def over_dispatcher(name, source, compiler, *words):
     """Compiles a program over the dispatcher. Gives its path, and what is wrong with that."""
     made = Path(ROOM().name) / name
@@ -955,6 +965,7 @@ BEHAVIOURS = {"a daemon without a log": without_log,
               "a deadlock among many requests": deadlocked_among_many, "no searches": not_searched,
               "a daemon that stays awake": awake,
               "a change of managers": changed, "no identifications left": drained, "10,000 idle connections": idle,
+              "connections without memory": turned_away,
               "a storm of clients": stormy, "mutated lines": mutated,
               "replicas in one program": lists, "a link for the state file": linked,
               "a state file without an epoch": kept_state, "few descriptors": few_descriptors,

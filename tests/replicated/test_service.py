@@ -21,6 +21,9 @@ from local import CALL, Local
 sys.path.insert(0, str(Path(__file__).resolve().parents[2] / "service" / "list"))
 from etcd_list import EtcdList  # noqa: E402
 
+sys.path.append(str(Path(__file__).resolve().parents[1]))
+from time_of_day import FAKED_TIME, TimeOfDay  # noqa: E402
+
 # How long an answer, an AST or a change may take.
 PATIENCE = 20.0
 # Bytes of a chunk, and steps that fill it.
@@ -28,8 +31,6 @@ CHUNK, STEPS = 3_000, 60
 VALUE = "00112233445566778899aabbccddeeff"
 # The quota of a small etcd, and the value of a key that fills it.
 SMALL, FILLING = 4 << 20, 100_000 * "x"
-# Gives a program another time of day.
-FAKED_TIME = Path("/usr/lib/x86_64-linux-gnu/faketime/libfaketime.so.1")
 # How often two connections of one session race, and the longest head start of either in seconds.
 RACES, HEAD_START = int(os.environ.get("VLM_RACES", "80")), 0.004
 
@@ -349,12 +350,9 @@ class Jumping(unittest.TestCase):
     SECONDS, LATE = 4, 6
 
     def setUp(self):
-        self.clock = tempfile.NamedTemporaryFile("w")
+        self.clock = TimeOfDay()
         self.addCleanup(self.clock.close)
-        self.jump(0)
-        env = {"LD_PRELOAD": str(FAKED_TIME), "FAKETIME_TIMESTAMP_FILE": self.clock.name, "FAKETIME_NO_CACHE": "1",
-               "FAKETIME_DONT_FAKE_MONOTONIC": "1", "DONT_FAKE_MONOTONIC": "1", "VLM_LIST": self.true_list()}
-        with mock.patch.dict(os.environ, env):
+        with mock.patch.dict(os.environ, {**self.clock.env, "VLM_LIST": self.true_list()}):
             self.local = Local(1, 2)
         self.addCleanup(self.local.close)
         self.local.wait()
@@ -369,17 +367,12 @@ class Jumping(unittest.TestCase):
         program.chmod(0o700)
         return str(program)
 
-    def jump(self, seconds):
-        self.clock.seek(0)
-        self.clock.write(f"{seconds:+d}\n")
-        self.clock.flush()
-
     def test_a_lease_knows_no_time_of_day(self):
         holder = Lines(self.local.places[0], f"open seconds={self.SECONDS}", "declare P", "enq P EX name=A block=1")
         other = Lines(self.local.places[1], "open seconds=60", "declare Q")
         self.addCleanup(other.close)
         for seconds in (86_400, -86_400):
-            self.jump(seconds)
+            self.clock.jump(seconds)
             for _ in range(self.SECONDS + 1):
                 self.assertRegex(holder.ask("alive"), "^alive")
                 time.sleep(1)
@@ -387,7 +380,7 @@ class Jumping(unittest.TestCase):
         begun = time.monotonic()
         other.ask("enq Q EX name=A block=1 ast=7")
         holder.close()
-        self.jump(86_400)
+        self.clock.jump(86_400)
         self.assertRegex(other.next(), "^Q: completion 7")
         took = time.monotonic() - begun
         self.assertTrue(self.SECONDS - 2 < took < self.SECONDS + self.LATE, took)
