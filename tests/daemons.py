@@ -72,8 +72,8 @@ class Daemon:
                 time.sleep(0.02)
         raise RuntimeError("vlmd does not listen")
 
-    def client(self, uid=None):
-        return Client(self.socket, uid)
+    def client(self, uid=None, groups=()):
+        return Client(self.socket, uid, groups)
 
     def metric(self, name):
         with self.client() as client:
@@ -104,18 +104,18 @@ class Daemon:
 
 # Connects as another user, and hands the connection over.
 CONNECT = """import os, socket, sys
-os.setgroups([]); os.setgid(int(sys.argv[3])); os.setuid(int(sys.argv[3]))
+os.setgroups([int(it) for it in sys.argv[4:]]); os.setgid(int(sys.argv[3])); os.setuid(int(sys.argv[3]))
 made = socket.socket(socket.AF_UNIX)
 made.connect(sys.argv[1])
 socket.send_fds(socket.socket(fileno=int(sys.argv[2])), [b"x"], [made.fileno()])
 """
 
 
-def connected_as(path, uid):
-    """A connection that a process of another user has made. It takes root."""
+def connected_as(path, uid, groups):
+    """A connection that a process of another user with further groups has made. It takes root."""
     ours, theirs = socket.socketpair()
     with ours, theirs:
-        words = [sys.executable, "-c", CONNECT, path, str(theirs.fileno()), str(uid)]
+        words = [sys.executable, "-c", CONNECT, path, str(theirs.fileno()), str(uid), *map(str, groups)]
         subprocess.run(words, pass_fds=[theirs.fileno()], check=True, timeout=SECONDS)
         return socket.socket(fileno=socket.recv_fds(ours, 1, 1)[1][0])
 
@@ -123,12 +123,12 @@ def connected_as(path, uid):
 class Client:
     """A connection to a vlmd. Lines are texts without line feeds."""
 
-    def __init__(self, path, uid=None):
+    def __init__(self, path, uid=None, groups=()):
         if uid is None:
             self.socket = socket.socket(socket.AF_UNIX)
             self.socket.connect(path)
         else:
-            self.socket = connected_as(path, uid)
+            self.socket = connected_as(path, uid, groups)
         self.socket.settimeout(SECONDS)
         self.heard = b""
         self.greeting = self.line()

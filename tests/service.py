@@ -21,6 +21,7 @@ from pathlib import Path
 
 import library
 import service_commands
+import service_edges
 import service_replicas
 import service_scripts
 import service_tls
@@ -699,12 +700,6 @@ def under_systemd(_program):
         yield from difference((ended.returncode, "one ListenStream" in ended.stderr), (4, True))
 
 
-def sandboxed(_program):
-    """The unit is as closed as systemd can tell."""
-    yield from library.ran("systemd-analyze", "security", "--offline=yes", "--threshold=6",
-                           TOP / "service" / "systemd" / "vlmd.service")
-
-
 def circle(one, other):
     """P of a client and Q of another wait for each other: the request for lock 4 came last."""
     one.ask("enq P EX name=A block=1")
@@ -988,12 +983,11 @@ def once():
     found += [Test(name, check) for name, check in BEHAVIOURS.items()]
     found += [Test("other users", other_users)] * (os.getuid() == 0)
     found += [Test("a clock that jumps", set_clock)] * FAKED_TIME.exists()
-    found += [Test("the unit for systemd", sandboxed)] * bool(shutil.which("systemd-analyze"))
     found += [Test("lines under libFuzzer", fuzzed)] * bool(shutil.which("clang"))
     found += [Test(f"the client in C by {compiler} with the sanitizer {sanitizer}",
                    partial(clients, compiler, sanitizer))
               for compiler in library.COMPILERS for sanitizer in library.SANITIZERS[1:]
               if library.links(compiler, sanitizer)]
     found += service_scripts.tests() + service_commands.tests() + service_tokens.tests() + service_replicas.tests()
-    found += service_tls.tests()
+    found += service_tls.tests() + service_edges.tests()
     return [] if needed() else found

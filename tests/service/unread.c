@@ -1,0 +1,101 @@
+/* A dispatcher without a daemon, and a client that does not read: after 64 KiB of unread answers none of its lines is
+ * run until it reads, and with more than 1 MiB it is cut off. docs/SERVICE.md says both numbers. */
+#include "parts.h"
+
+#include <stdio.h>
+#include <stdlib.h>
+#include <string.h>
+
+enum { KEYS = 16, LINES = 20000, LONGEST = 512, PAUSED = 65536, CUT = 1048576, LOCKS = 24000 };
+
+static struct dispatcher *dispatcher;
+
+#define CHECK(fact) check(fact, __LINE__, #fact)
+
+static void check(bool fact, int line, const char *text) {
+    if (fact)
+        return;
+    fprintf(stderr, "line %d: %s\n", line, text);
+    exit(1);
+}
+
+static void be_silent(const char *text) { (void)text; }
+
+static void send_line(struct client *client, const char *line) {
+    client_hear(client, (const uint8_t *)line, strlen(line));
+    while (dispatcher_is_busy(dispatcher))
+        dispatcher_run(dispatcher);
+}
+
+/* Reads all that waits for a client, and returns how many bytes and lines that were. */
+static size_t take(struct client *client, size_t *lines) {
+    size_t len;
+    const uint8_t *bytes = client_output(client, &len);
+    for (size_t at = 0; at < len; at++)
+        *lines += bytes[at] == '\n';
+    client_sent(client, len);
+    return len;
+}
+
+static struct client *joined(const char *declaration) {
+    const struct rights rights = {.group = 1};
+    struct client *client = client_open(dispatcher, &rights, 0, dispatcher);
+    size_t lines = 0;
+    send_line(client, "open\n");
+    send_line(client, declaration);
+    take(client, &lines);
+    CHECK(lines == 3);
+    return client;
+}
+
+/* The client gets an answer to each of its lines, 64 KiB of them and the last one at a time. */
+static void test_answers(void) {
+    struct client *client = joined("declare P\n");
+    size_t lines = 0;
+    for (int count = 0; count < LINES; count++)
+        client_hear(client, (const uint8_t *)"block P 1\n", 10);
+    while (lines < LINES) {
+        while (dispatcher_is_busy(dispatcher))
+            dispatcher_run(dispatcher);
+        bool is_heard = client_is_heard(client);
+        size_t len = take(client, &lines);
+        CHECK(is_heard == (len <= PAUSED) && len < PAUSED + LONGEST);
+        CHECK(len > PAUSED || lines == LINES);
+    }
+    CHECK(lines == LINES && !client_is_cut(client));
+    client_close(client);
+}
+
+/* Each lock of the client is in the way of a request, which it is told by an AST. */
+static void test_asts(void) {
+    struct client *client = joined("declare P quota=65535\n"), *other = joined("declare Q quota=65535\n");
+    char line[LONGEST];
+    size_t lines = 0, len, before = 0;
+    for (int lock = 0; lock < LOCKS; lock++) {
+        snprintf(line, sizeof line, "enq P PR name=N%d block=1 bast=4000000000 param=4000000000\n", lock);
+        send_line(client, line);
+        take(client, &lines);
+    }
+    for (int lock = 0; lock < LOCKS && !client_is_cut(client); lock++) {
+        client_output(client, &before);
+        snprintf(line, sizeof line, "enq Q EX name=N%d block=1\n", lock);
+        send_line(other, line);
+        take(other, &lines);
+    }
+    client_output(client, &len);
+    CHECK(client_is_cut(client) && client_is_over(client) && !client_is_cut(other));
+    CHECK(before <= CUT && before + LONGEST > CUT && len <= CUT);
+    client_close(client);
+    client_close(other);
+}
+
+int main(void) {
+    static const uint8_t keys[KEYS] = {1, 2, 3};
+    struct limits limits = USUAL_LIMITS;
+    limits.locks = limits.waiting = 2 * LOCKS;
+    dispatcher = dispatcher_open(&limits, 0, keys, be_silent);
+    test_answers();
+    test_asts();
+    dispatcher_close(dispatcher);
+    return 0;
+}
