@@ -254,6 +254,28 @@ def witnessed(_program):
         yield from difference(holds(daemon, 0), True)
 
 
+# Goes on under the lock for a while after its shell was ended by a signal.
+LINGERER = 'flock -n "$0" sh -c "echo held >>$0.told; sleep 0.4" || echo conflict >>"$0.told"'
+
+
+def witnessed_ends(_program):
+    """Where the daemon is killed again and again no two commands hold the lock at once, though each goes on for a while
+    after it was told that the lock is lost: the next daemon lets nobody in for the grace time."""
+    with tempfile.TemporaryDirectory() as folder:
+        told = Path(folder) / "held.told"
+        told.touch()
+        for _ in range(4):
+            before = told.stat().st_size
+            with Daemon("grace 2000", folder=folder) as daemon:
+                running = [start(daemon, "lock", "A", "sh", "-c", LINGERER, Path(folder) / "held") for _ in range(3)]
+                yield from difference(until(lambda size=before: told.stat().st_size > size), True)
+                daemon.kill()
+                statuses = sorted(made.wait(SECONDS) for made in running)
+                if not set(statuses) <= {0, 69, 75} or 75 not in statuses:
+                    yield f"the commands ended with {statuses}"
+        yield from difference(set(told.read_text().splitlines()), {"held"})
+
+
 def replicated(_program):
     """What is wrong with the commands at addresses of replicas, of which the first is dead: statuses, values, signals,
     waits, and a connection that ends."""
@@ -464,7 +486,7 @@ def tests():
               "names of signals": signals, "signals at the start": blocking_at_start, "the token of vlm lock": tokens,
               "a service without tokens": no_tokens, "locks that are lost": lost, "commands at replicas": replicated,
               "locks at replicas that are lost": replicas_lost, "killed commands": killed,
-              "commands and a witness": witnessed,
+              "commands and a witness": witnessed, "killed daemons and a witness": witnessed_ends,
               "vlm who, metrics and kill": told, "words of the program": front, "./vlm lock": by_launcher,
               "completion": completed, "completion in bash": completed_in_bash}
     return [Test(name, check) for name, check in checks.items()]
