@@ -16,7 +16,7 @@ from functools import partial
 from pathlib import Path
 
 import library
-from daemons import Daemon
+from daemons import PLAIN, Daemon
 from harness import ROOM, TOP, Once, Test, difference
 from proxies import Proxy, addresses
 
@@ -430,6 +430,32 @@ def turned_away(_program):
             yield from difference((command.returncode, told), (69, f"vlm: {folder}/socket{wanted}\n"))
 
 
+def shown_shells(_program):
+    """What is wrong with the commands that the README shows in two shells: the second one gives up when its time is
+    over, and `vlm who` shows the holder."""
+    page = (TOP / "README.md").read_text()
+    shown = re.search(r"^```text\n(\$ vlmd &\n.*?)^```", page, re.M | re.S)[1].splitlines()
+    daemon, hold, ask, look = (re.split(r" {3,}", line)[0].removeprefix("$ ") for line in shown)
+    seconds = int(re.search(r"-w (\d+)", ask)[1])
+    with tempfile.TemporaryDirectory() as folder:
+        env = {**os.environ, "VLM_SOCKET": f"{folder}/lock.sock", "ASAN_OPTIONS": "detect_leaks=0",
+               "PATH": f"{VLM().parent}:{PLAIN().parent}:{os.environ['PATH']}"}
+        script = f"{daemon}\nuntil [ -S $VLM_SOCKET ]; do sleep 0.05; done\n{hold}"
+        first = subprocess.Popen(["sh", "-c", script], env=env, stderr=subprocess.DEVNULL, start_new_session=True)
+
+        def second(command):
+            return subprocess.run(["sh", "-c", command], env=env, capture_output=True, text=True,
+                                  timeout=SECONDS).stdout
+
+        is_held = until(lambda: re.search(r"^backup +EX +- +granted .* sleep ", second(look), re.M))
+        began = time.monotonic()
+        yield from difference((is_held, second(ask)), (True, "busy\n"))
+        if time.monotonic() - began < seconds:
+            yield "it did not wait"
+        os.killpg(first.pid, signal.SIGTERM)
+        first.wait(SECONDS)
+
+
 def by_launcher(_program):
     """./vlm lock compiles the commands and runs them."""
     with Daemon() as daemon:
@@ -488,5 +514,6 @@ def tests():
               "locks at replicas that are lost": replicas_lost, "killed commands": killed,
               "commands and a witness": witnessed, "killed daemons and a witness": witnessed_ends,
               "vlm who, metrics and kill": told, "words of the program": front, "./vlm lock": by_launcher,
+              "the shells of the README": shown_shells,
               "completion": completed, "completion in bash": completed_in_bash}
     return [Test(name, check) for name, check in checks.items()]

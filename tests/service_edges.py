@@ -1,6 +1,6 @@
-"""The lock service at edges that its pages name: bytes that nobody reads, members of the groups of the configuration,
-keys, usual times, programs for threads whose calls are renamed, what the dispatcher takes from the system, and the
-unit."""
+"""The lock service at edges that its pages name: lines of a turn, bytes that nobody reads, members of the groups of the
+configuration, keys, usual times, programs for threads whose calls are renamed, what the dispatcher takes from the
+system, and the unit."""
 
 import contextlib
 import os
@@ -75,11 +75,12 @@ def queued(_program):
         yield from difference(sum(whole), 1)
 
 
-def unread(_program):
-    """What is wrong with the bytes that wait in the dispatcher for a client that does not read."""
-    made = Path(ROOM().name) / "unread"
+def turns(_program):
+    """What is wrong with the lines of a turn, and with the bytes that wait in the dispatcher for a client that does not
+    read."""
+    made = Path(ROOM().name) / "turns"
     wrong = list(library.ran("cc", "-std=gnu11", *library.STRICT, *SANITIZED, f"-I{library.prefix()}/include",
-                             f"-I{TOP}/service", TOP / "tests" / "service" / "unread.c", *DISPATCHER,
+                             f"-I{TOP}/service", TOP / "tests" / "service" / "turns.c", *DISPATCHER,
                              library.prefix() / "lib" / "libvlm.a", "-pthread", "-o", made))
     yield from wrong or library.ran(made)
 
@@ -199,7 +200,7 @@ def sandboxed(_program):
 
 
 def tests():
-    checks = {"a user with too many queued bytes": queued, "bytes that nobody reads": unread,
+    checks = {"a user with too many queued bytes": queued, "turns, and bytes that nobody reads": turns,
               "keys of a daemon": keys, "a usual search for deadlocks": usual_search,
               "since when a lock is": since_when, "programs whose calls are renamed": renamed,
               "the dispatcher without input and output": alone}

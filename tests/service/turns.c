@@ -1,5 +1,6 @@
-/* A dispatcher without a daemon, and a client that does not read: after 64 KiB of unread answers none of its lines is
- * run until it reads, and with more than 1 MiB it is cut off. docs/SERVICE.md says both numbers. */
+/* A dispatcher without a daemon, and clients that ask for much or do not read. A turn has 64 lines of a client, and no
+ * more lines once they have read 10,000 locks. After 64 KiB of unread answers no line of a client is run until it reads,
+ * and with more than 1 MiB it is cut off. docs/SERVICE.md says these numbers. */
 #include "parts.h"
 
 #include <stdio.h>
@@ -7,6 +8,9 @@
 #include <string.h>
 
 enum { KEYS = 16, LINES = 20000, LONGEST = 512, PAUSED = 65536, CUT = 1048576, LOCKS = 24000 };
+
+/* Lines of a turn, and how many a client sends at once; locks that a line reads. */
+enum { TURN = 64, SENT = 200, READ = 6000 };
 
 static struct dispatcher *dispatcher;
 
@@ -46,6 +50,35 @@ static struct client *joined(const char *declaration) {
     take(client, &lines);
     CHECK(lines == 3);
     return client;
+}
+
+/* The lines that a client gets in a turn: those that were left, or those that it sends. */
+static size_t turn(struct client *client, const char *sent) {
+    size_t lines = 0;
+    if (sent == NULL)
+        dispatcher_run(dispatcher);
+    else
+        client_hear(client, (const uint8_t *)sent, strlen(sent));
+    take(client, &lines);
+    return lines;
+}
+
+static void test_turns(void) {
+    static char many[10 * SENT + 1];
+    char line[LONGEST];
+    struct client *one = joined("declare P quota=65535\n"), *two = joined("declare Q\n");
+    for (int at = 0; at < SENT; at++)
+        memcpy(many + (size_t)10 * at, "block P 1\n", 11);
+    CHECK(turn(one, many) == TURN && turn(one, NULL) == TURN && turn(one, NULL) == TURN);
+    CHECK(turn(one, NULL) == SENT % TURN && !dispatcher_is_busy(dispatcher));
+    for (int lock = 0; lock < READ; lock++) {
+        snprintf(line, sizeof line, "enq P NL name=N%d block=1\n", lock);
+        CHECK(turn(one, line) == 1);
+    }
+    dispatcher_run(dispatcher);
+    CHECK(turn(one, "show\n") > READ && turn(two, "show\n") == 0 && turn(two, NULL) > READ);
+    client_close(one);
+    client_close(two);
 }
 
 /* The client gets an answer to each of its lines, 64 KiB of them and the last one at a time. */
@@ -94,6 +127,7 @@ int main(void) {
     struct limits limits = USUAL_LIMITS;
     limits.locks = limits.waiting = 2 * LOCKS;
     dispatcher = dispatcher_open(&limits, 0, keys, be_silent);
+    test_turns();
     test_answers();
     test_asts();
     dispatcher_close(dispatcher);
