@@ -13,7 +13,7 @@ import time
 from pathlib import Path
 
 import library
-from daemons import DISPATCHER, NOBODY, Daemon, compiled
+from daemons import DISPATCHER, NOBODY, SECONDS, Daemon, compiled
 from harness import ROOM, TOP, Once, Test, difference
 from service_replicas import until
 
@@ -49,7 +49,7 @@ def flood(client):
         while True:
             sent += client.socket.send(b"block P 1\n" * 1000)
     except OSError:
-        client.socket.settimeout(20)
+        client.socket.settimeout(SECONDS)
         return sent // 10
 
 
@@ -68,7 +68,7 @@ def queued(_program):
     of them is cut off, and the other one gets all its answers."""
     with Daemon("queued 100000") as daemon, daemon.client().begin("P") as one, daemon.client().begin("P") as two:
         sent = [flood(one), flood(two)]
-        yield from difference(until(lambda: daemon.metric("clients_cut_off_total") == 1), True)
+        yield from difference(until(lambda: daemon.metric("clients_cut_off_total") == 1, SECONDS), True)
         if "is cut off: too many bytes wait for its user" not in daemon.log.read_text():
             yield "the log does not say why"
         whole = [answers(client) == count for client, count in zip((one, two), sent)]
