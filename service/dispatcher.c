@@ -65,6 +65,8 @@ void dispatcher_close(struct dispatcher *dispatcher) {
 
 void dispatcher_be_quiet(struct dispatcher *dispatcher, uint64_t until) { dispatcher->quiet_until = until; }
 
+void dispatcher_set_grace(struct dispatcher *dispatcher, uint32_t milliseconds) { dispatcher->grace = milliseconds; }
+
 /* The quiet is over: requests that waited for it run. */
 static void speak(struct dispatcher *dispatcher) {
     dispatcher->quiet_until = 0;

@@ -140,6 +140,8 @@ static void end_epoch(struct dispatcher *dispatcher) {
         dispatcher->session_count);
     dispatcher_lose(dispatcher);
     use_manager(dispatcher, &manager);
+    if (dispatcher->grace != 0)
+        dispatcher_be_quiet(dispatcher, dispatcher->now + dispatcher->grace);
 }
 
 static bool has_locks(const struct session *session) {

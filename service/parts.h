@@ -240,6 +240,7 @@ struct dispatcher {
     uint32_t next_end;   /* of a replica: the place of the session that is asked for its end next */
     uint64_t found_none; /* how many steps there had been at the last search without a victim */
     uint64_t now, quiet_until, searched, looked;
+    uint32_t grace;   /* milliseconds without requests after the end of an epoch */
     uint64_t drained; /* when the epoch ends for want of IDs, or 0; UINT64_MAX: the leases of lost sessions end it */
     uint32_t epoch;
     uint32_t last_lkid;

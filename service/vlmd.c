@@ -171,6 +171,7 @@ static void on_hangup(uv_signal_t *handle, int number) {
         replica_limit(vlmd.replica, &vlmd.config.limits);
     else
         dispatcher_limit(vlmd.dispatcher, &vlmd.config.limits);
+    dispatcher_set_grace(vlmd.dispatcher, vlmd.config.grace);
     write_log("the configuration is read again");
 }
 
@@ -246,6 +247,7 @@ static bool start_dispatcher(void) {
     if (vlmd.dispatcher == NULL)
         return false;
     dispatcher_set_token(vlmd.dispatcher, (uint64_t)loop.epoch << TOKEN_BITS);
+    dispatcher_set_grace(vlmd.dispatcher, vlmd.config.grace);
     uint64_t now = uv_hrtime() / 1000000;
     dispatcher_tick(vlmd.dispatcher, now);
     if (loop.was_unclean && vlmd.config.grace != 0) {

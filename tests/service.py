@@ -785,8 +785,9 @@ def changed(_program):
 
 
 def drained(_program):
-    """Without such a moment new requests are refused, and at last the epoch ends for all."""
-    with Daemon("identifications 100", "drain 2500") as daemon, daemon.client().begin("P") as client:
+    """Without such a moment new requests are refused, and at last the epoch ends for all. Nothing is granted then for
+    the grace time, in which clients stop what they do under the lost locks."""
+    with Daemon("identifications 100", "drain 2500", "grace 1500") as daemon, daemon.client().begin("P") as client:
         other = daemon.client().begin("Q")
         other.ask("enq Q NL name=B block=1")
         client.ask("enq P EX name=C block=2")
@@ -799,7 +800,11 @@ def drained(_program):
         yield from difference(other.ask("cvt Q @1 CR block=1"), "Q: NORMAL lock 1")
         for it in (client, other):
             yield from difference((it.line(), it.line()), ("lost", None))
-        yield from difference(daemon.client().greeting, "vlm protocol 1 epoch 1")
+        began, next_one = time.monotonic(), daemon.client().begin("P")
+        yield from difference(next_one.greeting, "vlm protocol 1 epoch 1")
+        yield from difference(next_one.ask("enq P EX name=C block=1"), "P: NORMAL lock 4294967297")
+        if time.monotonic() - began < 1:
+            yield "a request was granted before clients had time to stop"
         with Daemon("identifications 100", "drain 60000") as daemon, daemon.client().begin("P") as client:
             client.ask("enq P NL name=B block=2")
             for _ in range(99):

@@ -108,12 +108,17 @@ def telling():
 
 
 def keys(_program):
-    """Each daemon hashes names by keys of its own."""
+    """Each daemon hashes names by keys of its own, also after a change of managers."""
     made, found = Once(telling), []
     for _ in range(2):
-        with Daemon(made=made) as daemon:
-            found += re.findall(r"^keys 1 ([0-9a-f]{32})$", daemon.log.read_text(), re.M)
-    yield from difference((len(found), len(set(found))), (2, 2))
+        with Daemon("identifications 100", made=made) as daemon, daemon.client().begin("P") as client:
+            for _ in range(90):
+                client.ask("enq P EX name=A block=1")
+                client.ask("deq P @1")
+            yield from difference(daemon.metric("epoch"), 1)
+            found.append(re.findall(r"^keys 1 ([0-9a-f]{32})$", daemon.log.read_text(), re.M))
+    yield from difference(([len(it) for it in found], [len(set(it)) for it in found], len({it[0] for it in found})),
+                          ([2, 2], [1, 1], 2))
 
 
 def usual_search(_program):
