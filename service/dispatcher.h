@@ -54,9 +54,11 @@ void dispatcher_close(struct dispatcher *dispatcher);
 /* Other limits count from here on. */
 void dispatcher_limit(struct dispatcher *dispatcher, const struct limits *limits);
 
-/* Has requests wait, unanswered, until this time; and for so many milliseconds after each end of an epoch, in which the
- * clients that have lost their locks stop what they do under them. */
+/* Has requests wait, unanswered, until this time. */
 void dispatcher_be_quiet(struct dispatcher *dispatcher, uint64_t until);
+
+/* Has requests wait for this many milliseconds after each end of an epoch. Clients that have lost their locks then have
+ * time to stop what they do under them. */
 void dispatcher_set_grace(struct dispatcher *dispatcher, uint32_t milliseconds);
 
 /* Tells the time, in milliseconds of a clock that never goes back, and does what is due. */

@@ -167,11 +167,12 @@ static void on_hangup(uv_signal_t *handle, int number) {
     if (loop.is_own_listener && read.mode != old->mode && chmod(old->socket, read.mode) != 0)
         write_log("the mode of the socket can't be changed");
     vlmd.config = read;
-    if (vlmd.replica != NULL)
+    if (vlmd.replica != NULL) {
         replica_limit(vlmd.replica, &vlmd.config.limits);
-    else
+    } else {
         dispatcher_limit(vlmd.dispatcher, &vlmd.config.limits);
-    dispatcher_set_grace(vlmd.dispatcher, vlmd.config.grace);
+        dispatcher_set_grace(vlmd.dispatcher, vlmd.config.grace);
+    }
     write_log("the configuration is read again");
 }
 
