@@ -29,6 +29,8 @@ DELAY = 0.01
 # Leases in seconds: one that a test waits for, and one that does not end on a slow machine.
 SHORT = 3
 LONG = 120
+# A lease of which a line's answer comes late, how late, and how exactly the end of a lease is known.
+LEASE, LATE, NEAR = 9, 2.0, 1.5
 # How long a program may take.
 PATIENCE = 200
 # How many lines a client has under way.
@@ -289,6 +291,59 @@ class Answers:
             it.close()
 
 
+class Late:
+    """A replica that answers the first line of a kind late, and nothing after it."""
+
+    SESSION = f"session {16 * '0'} seconds {LEASE} number 0 asts 0"
+
+    def __init__(self, late):
+        self._listener = socket.create_server(("127.0.0.1", 0))
+        self.address = f"127.0.0.1:{self._listener.getsockname()[1]}"
+        self._late, self._connections = late, []
+        # When it heard that line.
+        self.heard = None
+        threading.Thread(target=self._serve, daemon=True).start()
+
+    def _serve(self):
+        while self.heard is None:
+            made, _ = self._listener.accept()
+            self._connections.append(made)
+            made.sendall(b"vlm protocol 1 epoch 0\n")
+            self._talk(made)
+
+    def _talk(self, made):
+        for line in made.makefile():
+            word = line.split()[0]
+            if word == self._late:
+                self.heard = time.monotonic()
+                time.sleep(LATE)
+            made.sendall(f"{word if word == 'alive' else self.SESSION}\n".encode())
+            if word == self._late:
+                return
+            if self._late == "resume":
+                # (so the client resumes its session)
+                made.shutdown(socket.SHUT_RDWR)
+
+    def __enter__(self):
+        return self
+
+    def __exit__(self, *_):
+        self._listener.close()
+        for it in self._connections:
+            it.close()
+
+
+def late(word, _program):
+    """A lease lasts from before its line was sent, also if the answer comes late."""
+    with Late(word) as replica, Program(CHECKED(), "lease", f"tcp:{replica.address}", LEASE) as program:
+        yield from difference([program.line(), program.line()], ["ready", "on_lost"])
+        took = time.monotonic() - replica.heard
+        if abs(took - LEASE) > NEAR:
+            yield f"the lease was over {took:.1f} seconds after its line was heard"
+        program.go()
+        yield from program.ended()
+
+
 # What another replica may say at a resume, so that the locks are lost at once.
 ENDS = {"another protocol": ["vlm protocol 2 epoch 0"], "no group": ["no group"],
         "an ended session": ["vlm protocol 1 epoch 0", "session ended"],
@@ -428,6 +483,7 @@ def tests():
     found += [Test("an address of IPv6", partial(named, "::1", "[::1]"))] * has_ipv6()
     found += [Test(f"a session that can't be resumed: {name}", partial(ended, name)) for name in ENDS]
     found += [Test(f"a session that others {line}", partial(moved, line)) for line in ("resume", "kill")]
+    found += [Test(f"a late answer to {word}", partial(late, word)) for word in ("open", "resume", "alive")]
     return found + [Test("a replica that hangs for longer than the lease", hung),
                     Test("a replica that hangs for less than the lease", hung_shortly),
                     Test("a replica that hangs beside another", one_hangs), Test("a late resume", late_resume),

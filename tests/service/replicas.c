@@ -427,6 +427,15 @@ static void test_sleep(void) {
     CHECK(vlm_client_close(client) == VLM_NORMAL && losses == 1);
 }
 
+/* Waits for the end of its lease. */
+static void test_lease(void) {
+    options.on_lost = on_lost;
+    vlm_client *client = opened();
+    tell("ready");
+    hear();
+    CHECK(losses == 1 && vlm_client_close(client) == VLM_NORMAL);
+}
+
 /* Opens a client, if it can. */
 static void test_opening(void) {
     vlm_client *client;
@@ -457,7 +466,8 @@ int main(int count, char **words) {
         void (*run)(void);
     } tests[] = {{"cuts", test_cuts},   {"loss", test_loss},       {"waits", test_waits},
                  {"many", test_many},   {"opening", test_opening}, {"requests", test_requests},
-                 {"limit", test_limit}, {"sleep", test_sleep},     {"impatience", test_impatience}};
+                 {"limit", test_limit}, {"sleep", test_sleep},     {"impatience", test_impatience},
+                 {"lease", test_lease}};
     if (count != 4)
         return 2;
     alarm(MOST_SECONDS);
