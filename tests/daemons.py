@@ -18,6 +18,8 @@ SOURCES = sorted((TOP / "service").glob("*.c"))
 # The files of the dispatcher and of a replica, without the daemon around them.
 DAEMON = ("vlmd.c", "connections.c", "secured.c", "names.c", "config.c", "rows.c", "list.c", "start.c")
 DISPATCHER = [it for it in SOURCES if it.name not in DAEMON]
+# A list in memory, for a replica that is alone.
+LIST = TOP / "tests" / "service" / "one_list.py"
 # How long an answer may take.
 SECONDS = 20
 NOBODY = 65534
@@ -118,6 +120,12 @@ def connected_as(path, uid, groups):
         words = [sys.executable, "-c", CONNECT, path, str(theirs.fileno()), str(uid), *map(str, groups)]
         subprocess.run(words, pass_fds=[theirs.fileno()], check=True, timeout=SECONDS)
         return socket.socket(fileno=socket.recv_fds(ours, 1, 1)[1][0])
+
+
+def lone_replica(*settings):
+    """A replica that is alone. A test takes it longer than a daemon, since each `alive` waits for the list; so it
+    searches for no deadlocks meanwhile."""
+    return Daemon("etcd none:1", "search 100000000", *settings, env={"VLM_LIST": str(LIST)})
 
 
 class Client:

@@ -26,7 +26,7 @@ import service_replicas
 import service_scripts
 import service_tls
 import service_tokens
-from daemons import CHECKED, DISPATCHER, NOBODY, PLAIN, Client, Daemon
+from daemons import CHECKED, DISPATCHER, NOBODY, PLAIN, Client, Daemon, lone_replica
 from harness import PLAY, ROOM, TOP, Test, difference
 from service_scripts import MODES
 from time_of_day import FAKED_TIME, TimeOfDay
@@ -98,9 +98,13 @@ TALKS = {
 }
 
 
-def talk(name, _program):
-    """What is wrong with the answers to some lines."""
-    with Daemon() as daemon, daemon.client() as client:
+# What differs at a replica: sessions have names by chance and leases, and each keeps its last 64 steps.
+NOT_AT_REPLICAS = {"sessions", "numbers"}
+
+
+def talk(name, start, _program):
+    """What is wrong with the answers of a daemon or of a replica to some lines."""
+    with start() as daemon, daemon.client() as client:
         yield from difference(client.greeting, "vlm protocol 1 epoch 0")
         with daemon.client() as other:
             other.ask("open")
@@ -984,7 +988,9 @@ def first():
 
 
 def once():
-    found = [Test(f"lines: {name}", partial(talk, name)) for name in TALKS]
+    found = [Test(f"lines: {name}", partial(talk, name, Daemon)) for name in TALKS]
+    found += [Test(f"lines at a replica: {name}", partial(talk, name, lone_replica))
+              for name in sorted(TALKS.keys() - NOT_AT_REPLICAS)]
     found += [Test(name, check) for name, check in BEHAVIOURS.items()]
     found += [Test("other users", other_users)] * (os.getuid() == 0)
     found += [Test("a clock that jumps", set_clock)] * FAKED_TIME.exists()

@@ -9,7 +9,7 @@ from functools import partial
 from pathlib import Path
 
 import library
-from daemons import NOBODY, Daemon
+from daemons import NOBODY, Daemon, lone_replica
 from harness import PLAY, ROOM, Test, difference
 
 MODES = ("NL", "CR", "CW", "PR", "PW", "EX")
@@ -89,12 +89,12 @@ class Player:
             yield from difference(self.answer(), self.wanted(next(self.printed)))
 
 
-def worked(script, _program):
-    """What is wrong with a worked script over the socket."""
+def worked(script, start, _program):
+    """What is wrong with a worked script over the socket of a daemon or of a replica."""
     printed = iter(script.with_suffix(".stdout").read_text().splitlines())
     other = NOBODY if "NOSYSLCK" in script.with_suffix(".stdout").read_text() else None
     settings = (f"group {os.getgid()} 1", f"group {NOBODY} 1", f"syslck {os.getgid()}")
-    with Daemon(*settings) as daemon, daemon.client(other) as client:
+    with start(*settings) as daemon, daemon.client(other) as client:
         client.ask("open")
         player = Player(client, printed)
         for number, line in enumerate(script.read_bytes().decode("latin-1").splitlines(), 1):
@@ -153,4 +153,5 @@ def random_lines(_program):
 
 def tests():
     return [Test("enough worked scripts", enough_worked), Test("random scripts over the socket", random_lines),
-            *(Test(f"worked script {it.name} over the socket", partial(worked, it)) for it in playable())]
+            *(Test(f"worked script {it.name} {where}", partial(worked, it, start)) for it in playable()
+              for where, start in (("over the socket", Daemon), ("at a replica", lone_replica)))]

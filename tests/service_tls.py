@@ -17,14 +17,13 @@ from pathlib import Path
 
 import library
 import service_commands
-from daemons import CHECKED, PLAIN, SECONDS, Daemon, compiled
+from daemons import CHECKED, LIST, PLAIN, SECONDS, Daemon, compiled
 from harness import ROOM, TOP, Once, Test, difference
 from proxies import Proxy, addresses
 from service_replicas import CLIENT, LONG, Program, until
 from tls_keys import HOST, KEYS, Halves, SecuredClient, environment
 
 HERE = Path(__file__).resolve().parent / "service"
-LIST = HERE / "one_list.py"
 RIGHTS = "alice uid=1000 group=1\nbob uid=1001 group=2 syslck # of another group\noperator uid=1002 group=1 admin\n"
 # How many connections are cut while how many steps are made at least, and after how many bytes at most.
 CUTS, STEPS, MOST_BYTES = 60, 60, 6000
