@@ -12,14 +12,14 @@ from pathlib import Path
 
 from local import Local, start
 from lock_client import Client
-from witness import (NAMED, Witness, conflicts, fallen_tokens, left_behind, lost_updates, of_kind, statuses_after_kills,
-                     still_valid)
+from witness import (NAMED, Witness, conflicts, fallen_tokens, left_behind, lost_updates, of_kind, others_answers,
+                     statuses_after_kills, still_valid)
 from worker import LEASE, LONG_LEASE, WRITERS
 
 sys.path.insert(0, str(Path(__file__).resolve().parents[2] / "service" / "list"))
 from etcd_list import EtcdList  # noqa: E402
 
-MEMBERS, REPLICAS, KEEPERS, READERS, CHUNK = 3, 3, 3, 8, 60_000
+MEMBERS, REPLICAS, KEEPERS, READERS, RACERS, CHUNK = 3, 3, 3, 8, 3, 60_000
 # What stops at once: processes of a kind, how many of them, and for how many seconds.
 GROUPS = {"majority": ("etcd", 2, 8.0), "replicas": ("replica", REPLICAS, 3.0)}
 # How long the service may take to come to rest at the end.
@@ -51,7 +51,7 @@ class Run:
         for number in range(KEEPERS):
             self.start_worker("keeper", number)
         wait_until(lambda: self.witness.count("ready") == KEEPERS)
-        for role, count in (("writer", WRITERS), ("reader", READERS)):
+        for role, count in (("writer", WRITERS), ("reader", READERS), ("racer", RACERS)):
             for number in range(count):
                 self.start_worker(role, number)
         wait_until(lambda: self.witness.count("hold") >= WRITERS)
@@ -125,7 +125,7 @@ class Run:
         self.local.kill("replica 0")
         self.local.start_replica(0)
         self.local.wait()
-        workers = [name for name in self.local.processes if name.split()[0] in ("keeper", "writer", "reader")]
+        workers = [name for name in self.local.processes if name.split()[0] in ("keeper", "writer", "reader", "racer")]
         for name in workers:
             self.local.signal(name, signal.SIGTERM)
         wait_until(lambda: self.witness.count("idle") >= len(workers), lambda: f"not idle: {self.ended()}")
@@ -157,6 +157,7 @@ def problems(run, show):
     yield "conflicts", conflicts(told)
     yield "lost updates", lost_updates(told, counters)
     yield "fencing tokens that do not rise", fallen_tokens(told)
+    yield "answers of other lines", others_answers(told)
     yield "locks of the dead", left_behind(told, show)
     yield "value blocks that stayed valid", still_valid(told)
     live = sum(len(it.entries) for it in unpacked(run.local.members))
@@ -164,6 +165,7 @@ def problems(run, show):
     yield "processes that ended by themselves", run.ended()
     yield "kinds of fault that were not made", [kind for kind, count in run.counts.items() if not count]
     yield "nothing was counted", [] if of_kind(told, "done") else ["no write was acknowledged"]
+    yield "no races", [] if of_kind(told, "race") else ["no race was told"]
 
 
 def unpacked(members):
@@ -178,7 +180,8 @@ def report(run):
     print(f"faults: {', '.join(f'{kind} {count}' for kind, count in run.counts.items())}")
     print(f"{len(of_kind(told, 'done'))} acknowledged of {len(of_kind(told, 'try'))} writes, "
           f"{len(of_kind(told, 'hold'))} grants, {len(of_kind(told, 'ended'))} sessions ended under their clients, "
-          f"{len(list(statuses_after_kills(told)))} writers killed while they held their counter", flush=True)
+          f"{len(list(statuses_after_kills(told)))} writers killed while they held their counter, "
+          f"{len(of_kind(told, 'race'))} races for a session", flush=True)
 
 
 def main():

@@ -109,6 +109,14 @@ def fallen_tokens(told):
             writers = max(writers, token if mode == "EX" else 0)
 
 
+def others_answers(told):
+    """Of two connections that race for a session, the later one is told a lock on the resource that it named, or that
+    its number is old: it is then one of the first connection's."""
+    for _, sent, number, answer, locked, named in of_kind(told, "race"):
+        if locked != named and not (sent <= number and answer == f"{sent} old number"):
+            yield f"{answer}, after number {number}, for a lock on {named} and not on {locked}"
+
+
 def lost_updates(told, shown):
     """Each acknowledged value of a counter was written once, and the counter has counted them all. It may have counted
     writes that were not acknowledged."""

@@ -1,9 +1,11 @@
 """A client of the fault test, as a process: worker.py ROLE NUMBER SEED WITNESS REPLICA.. (ports of 127.0.0.1).
 
 A writer adds 1 to counters under EX: to one of its own, and to shared ones. A reader reads counters under PR. A keeper
-holds NL on all of them, so that no value block goes. Each tells the witness what it does, as lines of JSON. At SIGTERM
-it finishes what it is at, and from then on only keeps its session alive."""
+holds NL on all of them, so that no value block goes. A racer has two connections race for a session. Each tells the
+witness what it does, as lines of JSON. At SIGTERM it finishes what it is at, and from then on only keeps its session
+alive."""
 
+import itertools
 import json
 import random
 import signal
@@ -17,6 +19,8 @@ WRITERS, SHARED = 50, 4
 LEASE, LONG_LEASE = 4, 60
 # How long a worker waits for a grant before it gives its request up, and how long it pauses.
 LONGEST_WAIT, PAUSE = 15.0, 0.3
+# The longest head start of a connection that races.
+HEAD_START = 0.004
 OWN = [f"own{number:02}" for number in range(WRITERS)]
 ALL = OWN + [f"shared{number}" for number in range(SHARED)]
 
@@ -108,6 +112,80 @@ class Worker:
             self.client.next_ast(1.0)
 
 
+class Line:
+    """A connection, line by line. It raises OSError when it fails or takes too long."""
+
+    def __init__(self, place):
+        self._socket = socket.create_connection(place, LEASE)
+        self._file = self._socket.makefile("rb")
+        self.next()
+
+    def next(self):
+        line = self._file.readline().decode()
+        if not line:
+            raise ConnectionError
+        return line.rstrip("\n")
+
+    def send(self, line):
+        self._socket.sendall(line.encode() + b"\n")
+
+    def ask(self, line):
+        self.send(line)
+        return self.next()
+
+    def __enter__(self):
+        return self
+
+    def __exit__(self, *_):
+        self._file.close()
+        self._socket.close()
+
+
+class Racer:
+    """Has one connection of a session ask for a lock while another one, at another replica, resumes the session and
+    asks for another lock: under the number that it is told, or under the same one."""
+
+    def __init__(self, places, witness, rng):
+        self.places, self.witness, self.rng = places, witness, rng
+
+    def tell(self, kind, *words):
+        self.witness.sendall(json.dumps([kind, None, *words]).encode() + b"\n")
+
+    def race(self, number):
+        one, two = self.rng.sample(self.places, 2)
+        with Line(one) as first, Line(two) as then:
+            session = first.ask(f"open seconds={LEASE}").split()[1]
+            first.ask("1 declare P")
+            sends = [(first, f"2 enq P CR name=first{number} block=1"), (then, f"resume {session}")]
+            for connection, line in self.rng.sample(sends, 2):
+                connection.send(line)
+                time.sleep(self.rng.uniform(0.0, HEAD_START))
+            told = int(then.next().split()[5])
+            sent = self.rng.choice((2, told + 1))
+            answer = then.ask(f"{sent} enq P CR name=then{number} block=1")
+            # (the lock that it was told is on the resource that it named)
+            locked = then.ask(f"lock {answer.split()[-1]}") and then.next().split() if " lock " in answer else []
+            self.tell("race", sent, told, answer, locked[7] if len(locked) > 7 else "", f"then{number}")
+            then.send("close")
+
+    def run(self):
+        for number in itertools.count():
+            if STOP:
+                break
+            try:
+                self.race(number)
+            except (OSError, IndexError):
+                # (a fault, or the session has ended)
+                continue
+            finally:
+                time.sleep(self.rng.random() * PAUSE)
+        # (it has no process any more)
+        self.tell("process", 0)
+        self.tell("idle")
+        while True:
+            signal.pause()
+
+
 STOP = []
 
 
@@ -118,6 +196,8 @@ def main(role, number, seed, witness, *ports):
     rng.shuffle(places)
     said = socket.create_connection(("127.0.0.1", int(witness)))
     said.sendall(json.dumps(["worker", None, role, int(number)]).encode() + b"\n")
+    if role == "racer":
+        Racer(places, said, rng).run()
     while True:
         worker = Worker(int(number), places, said, rng)
         if role == "keeper":
