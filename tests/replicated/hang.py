@@ -127,7 +127,7 @@ def one_try(words):
 def main():
     parser = argparse.ArgumentParser(description=__doc__)
     parser.add_argument("--clients", type=int, default=90, help="clients of the service (%(default)s)")
-    parser.add_argument("--lease", type=int, default=60, help="seconds of their leases (%(default)s)")
+    parser.add_argument("--lease", type=int, default=5, help="seconds of their leases (%(default)s)")
     parser.add_argument("--seconds", type=float, default=12, help="how long the leader hangs (%(default)s)")
     parser.add_argument("--tries", type=int, default=3, help="tries at most, until one is in time (%(default)s)")
     words = parser.parse_args()

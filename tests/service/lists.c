@@ -665,6 +665,35 @@ static void run_leaving(void) {
     end();
 }
 
+/* Clients of a replica that ask at once to keep their leases share one beat. */
+static void run_one_beat(void) {
+    enum { SHARERS = 3 };
+    size_t all = 0, most = 0;
+    begin_with(&clients[0]);
+    for (size_t at = 1; at < SHARERS; at++) {
+        connect_to(&clients[at], &nodes[0]);
+        pass_time(&clients[at], now + 500);
+    }
+    size_t from = list.count;
+    for (size_t at = 0; at < SHARERS; at++)
+        ask(&clients[at], "alive");
+    for (size_t at = 0; at < SHARERS; at++)
+        pass_time(&clients[at], now + 500);
+    for (; from < list.count; from++) {
+        struct reader reader = {list.all[from].batch.all, list.all[from].batch.len, false};
+        struct entry entry;
+        batch_open(&reader);
+        while (batch_next(&reader, &entry)) {
+            size_t sessions = entry.type == ENTRY_BEAT ? entry.payload.left / 8 - 1 : 0;
+            all += sessions;
+            most = sessions > most ? sessions : most;
+        }
+    }
+    if (most != SHARERS || all != SHARERS)
+        fail("leases are not kept by one beat");
+    end();
+}
+
 static void need_expected(const struct replica *replica, uint32_t expected) {
     if (replica_expected(replica) != expected)
         fail("a replica expects another number of lines");
@@ -936,6 +965,7 @@ int main(int count, char **words) {
     run_idle();
     run_list_that_stands_still();
     run_leaving();
+    run_one_beat();
     run_next_lines();
     run_many_readings();
     run_costly_lines();
