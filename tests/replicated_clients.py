@@ -1,9 +1,11 @@
-"""Programs over replicas of vlmd, some of which are killed: the client in C, and programs of OpenVMS."""
+"""Programs over replicas of vlmd, some of which are killed: the client in C, the package for Python, and programs of
+OpenVMS."""
 
 import importlib.util
 import os
 import re
 import signal
+import subprocess
 import sys
 import time
 
@@ -91,6 +93,62 @@ def client_in_c(_program):
             yield from program.ended()
 
 
+# Threads that count under one lock, each with a process of its own, until the input ends. It prints how much each has
+# counted between two lines of input.
+COUNTS = """
+import sys, threading
+import vlm
+from vlm import Mode
+
+THREADS = 4
+counts, holders, is_over = [0] * THREADS, [], threading.Event()
+
+def count(number, process):
+    while not is_over.is_set():
+        with process.lock("counter", Mode.EX):
+            holders.append(number)
+            if len(holders) > 1:
+                print("held by", holders, flush=True)
+            holders.pop()
+            counts[number] += 1
+
+with vlm.connect(sys.argv[1], lease=int(sys.argv[2])) as connection:
+    threads = [threading.Thread(target=count, args=(it, connection.declare())) for it in range(THREADS)]
+    for thread in threads:
+        thread.start()
+    for _ in sys.stdin:
+        print(*counts, flush=True)
+        counts[:] = [0] * THREADS
+    is_over.set()
+    for thread in threads:
+        thread.join()
+"""
+
+
+def package_in_python(_program):
+    """What is wrong with threads that count under a lock by the package for Python, while replicas and members of etcd
+    end and hang: each goes on after each fault, and no two hold the lock."""
+    with local(3, 3) as there:
+        there.wait()
+        env = {**os.environ, "PYTHONPATH": str(TOP / "bindings" / "python"), "VLM_PREFIX": str(library.prefix())}
+        words = [sys.executable, "-c", COUNTS, addresses(there), str(LONG)]
+        with subprocess.Popen(words, env=env, text=True, stdin=subprocess.PIPE, stdout=subprocess.PIPE,
+                              stderr=subprocess.PIPE) as program:
+            for number in range(FAULTS):
+                fail(there, number)
+                there.wait()
+                time.sleep(DOWN)
+                program.stdin.write("\n")
+                program.stdin.flush()
+                counts = program.stdout.readline().split()
+                if len(counts) != 4 or not all(it.isdigit() and int(it) > 0 for it in counts):
+                    yield f"after fault {number}: {' '.join(counts)}"
+                    program.kill()
+                    break
+            said = program.communicate(timeout=LONG)
+            yield from difference((program.returncode, *said), (0, "", ""))
+
+
 def openvms(_program):
     """What is wrong with examples of OpenVMS over replicas, of which one ends."""
     with vms.Stage(vms.first_links()[1], Replicas()) as stage:
@@ -116,5 +174,6 @@ def at_a_socket(_program):
 
 def tests():
     return [Test("the client in C while replicas and members fail", client_in_c),
+            Test("the package for Python while replicas and members fail", package_in_python),
             Test("programs of OpenVMS over replicas", openvms),
             Test("clients at the Unix socket of a replica", at_a_socket)]
