@@ -1,6 +1,6 @@
 //! The lines that C has printed.
 
-ghost use Rattle.std.specs.Prelude.{◌≡◌};
+ghost use Rattle.std.specs.Prelude.{◌≡◌, option_copied};
 ghost use Rattle.std.specs.Option.{option_map};
 ghost use Rattle.vlm_words.specs.declared.conditions.Cond.TheVariants.{Normal};
 ghost use Rattle.vlm_words.specs.declared.steps.Answer.{Answer};
@@ -8,7 +8,7 @@ ghost use Rattle.vlm_words.specs.Conditions.{condition_number};
 ghost use Rattle.vlm_lines.specs.Texts.{status_block_line, status_tail_line};
 ghost use Rattle.vlm_capi.specs.Structs.{node_of};
 ghost use Rattle.vlm_capi.specs.Copies.{Told};
-ghost use Rattle.vlm_capi.specs.Printed.{IsToldOf, answer_printed, answer_told, ast_told, ast_with, condition_of, row_told, status_printed, taken_printed, taken_told, text_of, told_printed};
+ghost use Rattle.vlm_capi.specs.Printed.{IsToldOf, answer_printed, answer_told, ast_told, ast_with, condition_of, row_told, status_printed, taken_printed, taken_told, text_of, told_printed, under_name};
 
 use crate::numbers::{mode_of, node_of};
 use crate::padding::line_cells;
@@ -137,6 +137,16 @@ fn taken_told(cond: Cond, ast: &VlmAst) -> Answer
     }
 }
 
+// The name of the process that a line names, if it is no longer than such names are.
+fn process_name(line: &VlmLine) -> Option<&[u8]>
+    ensures { option_copied result ≡ under_name line.now (λ name. name) }
+{
+    if line.name_len > 15 {
+        return None;
+    }
+    Some(&line.name[..line.name_len as usize])
+}
+
 #[tactic(auto, unfolding(crate::specs::Printed::answer_printed))]
 fn write_answer(line: &VlmLine, answer: Answer, text: &mut VlmText) -> u32
     ensures { Told (option_map text_of (answer_printed line.now answer)) text.old text.new result }
@@ -147,11 +157,10 @@ fn write_answer(line: &VlmLine, answer: Answer, text: &mut VlmText) -> u32
             None => status(Cond::Badparam),
         },
         SEARCH => write(&answer_line(b"search", answer), text),
-        _ if line.name_len > 15 => status(Cond::Badparam),
-        _ => {
-            let name = &line.name[..line.name_len as usize];
-            write(&answer_line(name, answer), text)
-        }
+        _ => match process_name(line) {
+            Some(name) => write(&answer_line(name, answer), text),
+            None => status(Cond::Badparam),
+        },
     }
 }
 
@@ -169,11 +178,8 @@ pub(crate) fn write_told(line: &VlmLine, cond: u32, number: u32, text: &mut VlmT
 pub(crate) fn write_taken(line: &VlmLine, cond: u32, ast: &VlmAst, text: &mut VlmText) -> u32
     ensures { Told (option_map text_of (taken_printed line.now (condition_of cond) ast.now)) text.old text.new result }
 {
-    match condition_of(cond) {
-        Some(cond) if line.name_len <= 15 => {
-            let name = &line.name[..line.name_len as usize];
-            write(&answer_line(name, taken_told(cond, ast)), text)
-        }
+    match (process_name(line), condition_of(cond)) {
+        (Some(name), Some(cond)) => write(&answer_line(name, taken_told(cond, ast)), text),
         _ => status(Cond::Badparam),
     }
 }
@@ -183,9 +189,8 @@ pub(crate) fn write_block(line: &VlmLine, shown: Option<Option<Block>>, text: &m
     ensures { Told (option_map text_of (status_printed status_block_line line.now (node_of line.now.number) shown))
         text.old text.new result }
 {
-    match (node_of(line.number), shown) {
-        (Some(number), Some(block)) if line.name_len <= 15 => {
-            let name = &line.name[..line.name_len as usize];
+    match (process_name(line), node_of(line.number), shown) {
+        (Some(name), Some(number), Some(block)) => {
             write(&status_block_line(name, number, block), text)
         }
         _ => status(Cond::Badparam),
@@ -197,9 +202,8 @@ pub(crate) fn write_tail(line: &VlmLine, shown: Option<Option<Block>>, text: &mu
     ensures { Told (option_map text_of (status_printed status_tail_line line.now (node_of line.now.number) shown))
         text.old text.new result }
 {
-    match (node_of(line.number), shown) {
-        (Some(number), Some(block)) if line.name_len <= 15 => {
-            let name = &line.name[..line.name_len as usize];
+    match (process_name(line), node_of(line.number), shown) {
+        (Some(name), Some(number), Some(block)) => {
             write(&status_tail_line(name, number, block), text)
         }
         _ => status(Cond::Badparam),
