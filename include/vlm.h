@@ -6,8 +6,8 @@
  * - One call at a time has a handle, a reading too: a call takes what the handle holds, and puts it back at its end. So
  *   no handle is const. It may go from thread to thread, where a lock, the start or join of a thread or a sequentially
  *   consistent atomic orders the calls.
- * - A pointer is not null and points, for the call, to initialized objects of its type: `name` to `name_len` bytes and
- *   `keys` to `keys_len`. They are not null even where the length is 0. No two arguments overlap.
+ * - A pointer is not null and points, for the call, to initialized objects of its type: `name` to `name_len` bytes. It
+ *   is not null even where the length is 0. No two arguments overlap.
  * - malloc, realloc and free are those of one allocator, which aligns as C says. No call is made from a signal handler
  *   or in the forked child of a process with threads.
  * All else that is passed is checked, and answered by a condition value.
@@ -21,8 +21,8 @@
  * - with a node, group, quota, number of status blocks, status block or flags above what the core's field holds;
  * - with a `lock_kind` other than VLM_BY_ID and VLM_BY_BLOCK, or a status block above 255 in `lock`;
  * - on a handle with no lock manager.
- * Status blocks are numbered from 1: block 0 does not exist. *pid, *lkid and *victim are written by each call that has
- * them, with 0 where there is nothing to tell.
+ * Status blocks are numbered from 1: block 0 does not exist. Each call that has *pid, *lkid or *victim writes it: 0 if no
+ * process is made, the request has no lock, or the search has no victim.
  *
  * The ASTs of a process come in the order in which they are queued. A step queues the completions of a resource before
  * the blocking ASTs of its granted locks. So a process learns of a grant before it learns that the granted lock blocks
@@ -32,7 +32,7 @@
  * number. So a program goes on with each library whose version differs in the last number alone.
  *
  * Where strangers choose the names of resources, give vlm_open 16 bytes of keys that nobody can foresee. Without keys
- * it hashes by fixed ones, and then names can be chosen that meet in the index.
+ * it hashes by fixed ones. Then somebody can choose many names with one hash, which slow steps down.
  */
 #ifndef VLM_H
 #define VLM_H
@@ -104,6 +104,7 @@ enum {
     VLM_MAX_QUOTA = 65535, /* locks of a process */
     VLM_MAX_BLOCKS = 255,  /* status blocks of a process */
     VLM_MAX_NAME = 31,     /* bytes of a resource's name */
+    VLM_MAX_LEVELS = 16,   /* of a resource tree, with its root */
     VLM_VALUE_BYTES = 16,  /* of a value block, without its tail */
     VLM_TAIL_BYTES = 48    /* of the tail */
 };

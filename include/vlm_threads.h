@@ -45,7 +45,8 @@
  * - A routine or a reader returns. It does not leave by longjmp, a C++ exception or pthread_exit.
  * - A reader of vlm_threads_look makes only the readings of vlm.h, and no call of this header except vlm_threads_label.
  * - No call is made from a signal handler, or in the forked child of a process with threads.
- * - malloc, calloc, realloc and free belong to one allocator. The library and both headers are of one version.
+ * - malloc, calloc, realloc and free belong to one allocator. The versions of the library and of both headers have the
+ *   same first two numbers.
  */
 #ifndef VLM_THREADS_H
 #define VLM_THREADS_H

@@ -23,7 +23,7 @@
 #include <time.h>
 #include <unistd.h>
 
-enum { NODES = 8, NODE_SHIFT = 16 };
+enum { NODE_SHIFT = 16 };
 
 /* The states of a read. The port's thread makes it ASKED from FREE, and FREE from ANSWERED; the hub's thread makes it
  * ANSWERED from ASKED. Each writes the other members only before it makes its change. */
@@ -159,7 +159,7 @@ uint32_t vlm_hub_turn_ringing(vlm_hub *hub, vlm_bell *bells, size_t count, size_
     size_t before = vlm_hub_entries(hub);
     uint32_t status = vlm_hub_turn(hub, made);
     uint32_t nodes = *made ? nodes_from(hub, before) : 0;
-    for (size_t i = 0; i < count && i < NODES; i++)
+    for (size_t i = 0; i < count && i < VLM_MAX_NODES; i++)
         if (nodes >> (i + 1) & 1)
             vlm_bell_ring(&bells[i]);
     return status;
@@ -175,7 +175,7 @@ static void answer_read(vlm_hub *hub, vlm_block_read *read) {
 
 size_t vlm_hub_answer_reads(vlm_hub *hub, vlm_block_read *reads, vlm_bell *bells, size_t count) {
     size_t answered = 0;
-    for (size_t i = 0; i < count && i < NODES; i++) {
+    for (size_t i = 0; i < count && i < VLM_MAX_NODES; i++) {
         if (state_of(&reads[i]) != ASKED)
             continue;
         answer_read(hub, &reads[i]);
@@ -208,7 +208,7 @@ static uint32_t cut(vlm_hub_service *service) {
 /* Cuts, if there might be no place for all that comes before the next cut: an entry for each lost node, and up to two
  * for each node in a turn. */
 static uint32_t cut_if_due(vlm_hub_service *service) {
-    if (!service->entries || vlm_hub_entries(service->hub) + (size_t)3 * NODES <= service->capacity)
+    if (!service->entries || vlm_hub_entries(service->hub) + (size_t)3 * VLM_MAX_NODES <= service->capacity)
         return VLM_NORMAL;
     return cut(service);
 }
@@ -260,7 +260,7 @@ void vlm_hub_stop(vlm_hub_service *service) {
 }
 
 uint32_t vlm_hub_tell_lost(vlm_hub_service *service, uint32_t node) {
-    if (node < 1 || node > NODES)
+    if (node < 1 || node > VLM_MAX_NODES)
         return VLM_BADPARAM;
     __atomic_fetch_or(&service->lost, 1u << node, __ATOMIC_SEQ_CST);
     vlm_bell_ring(service->bell);

@@ -94,7 +94,7 @@ uint32_t vlm_threads_open(const vlm_threads_options *options, vlm_threads **made
 static void stop(vlm_threads *layer) {
     if (layer->processes.chains)
         vlmt_forget_node(layer, 0);
-    for (uint32_t node = 1; node <= NODES; node++) {
+    for (uint32_t node = 1; node <= VLM_MAX_NODES; node++) {
         vlm_leave(&layer->handle, node);
         layer->departed |= UINT32_C(1) << node;
     }

@@ -31,7 +31,7 @@
 #include <string.h>
 #include <time.h>
 
-enum { NODES = 8, MOST_BLOCKS = 255, SHORT_VALUE = 16, WHOLE_VALUE = 64, CACHE_LINE = 64 };
+enum { SHORT_VALUE = VLM_VALUE_BYTES, WHOLE_VALUE = VLM_VALUE_BYTES + VLM_TAIL_BYTES, CACHE_LINE = 64 };
 
 /* The kind of an event that calls a `released` routine, beside those of ASTs. */
 enum { RELEASED = 3 };

@@ -202,7 +202,7 @@ static uint32_t declare(vlm_threads *layer, const vlm_threads_declaration *words
 
 /* The core checks the other members. */
 static bool is_right_declaration(const vlm_threads_declaration *words) {
-    return words->requests >= 1 && words->requests <= MOST_BLOCKS && words->tied <= 1 && words->own_queue <= 1
+    return words->requests >= 1 && words->requests <= VLM_MAX_BLOCKS && words->tied <= 1 && words->own_queue <= 1
            && !words->label[VLM_THREADS_LABEL - 1];
 }
 

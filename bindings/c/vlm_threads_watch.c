@@ -4,7 +4,7 @@
 /* The first node that has not departed, or the last one. */
 static uint32_t living_node(const vlm_threads *layer) {
     uint32_t node = 1;
-    while (node < NODES && layer->departed >> node & 1)
+    while (node < VLM_MAX_NODES && layer->departed >> node & 1)
         node++;
     return node;
 }
