@@ -22,7 +22,7 @@
  * - with a `lock_kind` other than VLM_BY_ID and VLM_BY_BLOCK, or a status block above 255 in `lock`;
  * - on a handle with no lock manager.
  * Status blocks are numbered from 1: block 0 does not exist. Each call that has *pid, *lkid or *victim writes it: 0 if
- * no process is made, the request has no lock, or the search has no victim.
+ * no process is declared, the request is refused, or the search finds no victim.
  *
  * The ASTs of a process come in the order in which they are queued. A step queues the completions of a resource before
  * the blocking ASTs of its granted locks. So a process learns of a grant before it learns that the granted lock blocks

@@ -1,19 +1,5 @@
 /* The limits of vlm.h: what each allows is done, and one more is refused as the header or its condition says. */
-#include "vlm.h"
-
-#include <stdio.h>
-#include <string.h>
-
-static unsigned calls, wrong;
-
-static void expect_at(int line, uint32_t got, uint32_t want) {
-    calls++;
-    if (got != want) {
-        wrong++;
-        fprintf(stderr, "line %d: %s, not %s\n", line, vlm_condition_name(got), vlm_condition_name(want));
-    }
-}
-#define EXPECT(call, want) expect_at(__LINE__, (call), (want))
+#include "core_test.h"
 
 static uint32_t pid, lkid;
 

@@ -1,27 +1,5 @@
 /* The calls that walk, look up and take the AST of any process, with each of their answers. */
-#include "vlm.h"
-
-#include <stdio.h>
-#include <string.h>
-
-static unsigned calls, wrong;
-
-static void expect_at(int line, uint32_t got, uint32_t want) {
-    calls++;
-    if (got != want) {
-        wrong++;
-        fprintf(stderr, "line %d: %s, not %s\n", line, vlm_condition_name(got), vlm_condition_name(want));
-    }
-}
-#define EXPECT(call, want) expect_at(__LINE__, (call), (want))
-
-static void hold_at(int line, int fact, const char *text) {
-    if (!fact) {
-        wrong++;
-        fprintf(stderr, "line %d: not %s\n", line, text);
-    }
-}
-#define HOLD(fact) hold_at(__LINE__, (fact), #fact)
+#include "core_test.h"
 
 /* Each call of a reading that is to be refused: it is BADPARAM, and nothing is written. */
 #define REFUSED(call, words)                                \

@@ -1,28 +1,6 @@
 /* Each call with each kind of wrong argument, on a closed handle and on an open one: each answer is as expected,
  * nothing is written where nothing is to be, and the locks stay as they are. */
-#include "vlm.h"
-
-#include <stdio.h>
-#include <string.h>
-
-static unsigned calls, wrong;
-
-static void expect_at(int line, uint32_t got, uint32_t want) {
-    calls++;
-    if (got != want) {
-        wrong++;
-        fprintf(stderr, "line %d: %s, not %s\n", line, vlm_condition_name(got), vlm_condition_name(want));
-    }
-}
-#define EXPECT(call, want) expect_at(__LINE__, (call), (want))
-
-static void hold_at(int line, int fact, const char *text) {
-    if (!fact) {
-        wrong++;
-        fprintf(stderr, "line %d: not %s\n", line, text);
-    }
-}
-#define HOLD(fact) hold_at(__LINE__, (fact), #fact)
+#include "core_test.h"
 
 static const uint8_t name[] = {'A'};
 static const uint8_t long_name[200] = {1};

@@ -1,6 +1,7 @@
 /* A client of a replicated service: replicas TEST ADDRESS LEASE makes calls while a driver fails its connections. It
  * tells the driver by lines how far it is, and goes on at each line of the driver. */
 #define _GNU_SOURCE
+#include "check.h"
 #include "vlm_client.h"
 
 #include <pthread.h>
@@ -16,15 +17,6 @@ enum { CLIENTS = 2, WORKERS = 3, COUNTERS = 3, KINDS = 4, CALLERS = 100, WAIT = 
 static vlm_client_options options = {.size = sizeof options};
 static atomic_ulong steps, cancels;
 static atomic_bool is_over, is_impatient;
-
-#define CHECK(fact) check(fact, __LINE__, #fact)
-
-static void check(bool fact, int line, const char *text) {
-    if (fact)
-        return;
-    fprintf(stderr, "line %d: %s\n", line, text);
-    exit(1);
-}
 
 static void tell(const char *line) {
     puts(line);

@@ -1,10 +1,10 @@
 /* A dispatcher without a daemon, and clients that ask for much or do not read. A turn has 64 lines of a client, and no
  * more lines once they have read 10,000 locks. After 64 KiB of unread answers no line of a client is run until it
  * reads, and with more than 1 MiB it is cut off. docs/SERVICE.md says these numbers. */
+#include "check.h"
 #include "parts.h"
 
 #include <stdio.h>
-#include <stdlib.h>
 #include <string.h>
 
 enum { KEYS = 16, LINES = 20000, LONGEST = 512, PAUSED = 65536, CUT = 1048576, LOCKS = 24000 };
@@ -13,15 +13,6 @@ enum { KEYS = 16, LINES = 20000, LONGEST = 512, PAUSED = 65536, CUT = 1048576, L
 enum { TURN = 64, SENT = 200, READ = 6000 };
 
 static struct dispatcher *dispatcher;
-
-#define CHECK(fact) check(fact, __LINE__, #fact)
-
-static void check(bool fact, int line, const char *text) {
-    if (fact)
-        return;
-    fprintf(stderr, "line %d: %s\n", line, text);
-    exit(1);
-}
 
 static void be_silent(const char *text) { (void)text; }
 
