@@ -20,6 +20,8 @@ TOOLS = ("clang-format", "clang-tidy", "mypy", "pyflakes3", "shellcheck", "cargo
 SECONDS = 300
 MOST_COLUMNS = 120
 MOST_LINES = 40
+MOST_PROOF_COLUMNS = 160
+MOST_ANSWER_LINES = 150
 BY_HAND = "bench/peers/by_hand/main.rs"
 # How C and C++ are compiled for clang-tidy. In C it follows a third of the paths, in less than half of the time.
 COMPILED_CXX = ["-std=c++17", "-Iinclude"]
@@ -187,6 +189,17 @@ def long_functions(_program):
                 yield f"{name}:{line} {function} has {count} lines"
 
 
+def long_proofs(_program):
+    """Lines of proofs have at most 160 columns, and the answers for a function at most 150 lines."""
+    for name in files(".antt"):
+        lines = (TOP / name).read_text().splitlines()
+        for number, line in enumerate(lines, 1):
+            if len(line) > MOST_PROOF_COLUMNS:
+                yield f"{name}:{number} has {len(line)} columns"
+        if name.endswith("/Answers.antt") and len(lines) > MOST_ANSWER_LINES:
+            yield f"{name} has {len(lines)} lines"
+
+
 # Each check, with its name and the tools that it needs.
 CHECKS = (("the layout of Rattle", rattle_layout, ()),
           ("the layout of C, by clang-format", c_layout, ("clang-format",)),
@@ -198,7 +211,8 @@ CHECKS = (("the layout of Rattle", rattle_layout, ()),
           ("mistakes in Python, by pyflakes", python_mistakes, ("pyflakes3",)),
           ("mistakes in shell scripts, by shellcheck", shell_mistakes, ("shellcheck",)),
           ("lines of at most 120 columns", long_lines, ()),
-          ("functions of at most 40 lines", long_functions, ()))
+          ("functions of at most 40 lines", long_functions, ()),
+          ("proofs of at most 160 columns, answers of at most 150 lines", long_proofs, ()))
 
 
 def once():

@@ -35,43 +35,59 @@ const _: () = prove!(size_of::<VlmRequest>() == 128);
 
 const _: () = prove!(size_of::<VlmDequeue>() == 128);
 
+/// How a manager is opened.
 #[repr(C)]
 #[derive(Clone, Copy)]
 pub struct VlmOptions {
+    /// The size of the struct in bytes.
     pub size: u32,
     /// The version of the caller's header.
     pub version: u32,
     /// 1 to hash names by `keys`, or 0 to hash them by fixed keys.
     pub has_keys: u32,
+    /// The random keys by which names are hashed.
     pub keys: [u8; 16],
+    /// All zero.
     pub reserved: [u32; 9],
 }
 
+/// A process as it is declared.
 #[repr(C)]
 #[derive(Clone, Copy)]
 pub struct VlmDeclaration {
+    /// The size of the struct in bytes.
     pub size: u32,
     /// 1 to 8.
     pub node: u32,
+    /// The UIC group.
     pub group: u32,
     /// 1 if it has the privilege SYSLCK, or 0.
     pub syslck: u32,
+    /// How many locks it may have (ENQLM).
     pub quota: u32,
     /// How many status blocks it has, numbered from 1.
     pub blocks: u32,
+    /// All zero.
     pub reserved: [u32; 2],
 }
 
+/// Sets the value block of a status block.
 #[repr(C)]
 #[derive(Clone, Copy)]
 pub struct VlmSetting {
+    /// The size of the struct in bytes.
     pub size: u32,
+    /// The ID of the process.
     pub pid: u32,
+    /// The status block, numbered from 1.
     pub block: u32,
     /// 1 to set the tail too, or 0.
     pub has_tail: u32,
+    /// The first 16 bytes of the value block.
     pub value: [u8; 16],
+    /// The other 48 bytes of the value block.
     pub tail: [u8; 48],
+    /// All zero.
     pub reserved: [u32; 4],
 }
 
@@ -79,10 +95,13 @@ pub struct VlmSetting {
 #[repr(C)]
 #[derive(Clone, Copy)]
 pub struct VlmRequest {
+    /// The size of the struct in bytes.
     pub size: u32,
+    /// The process that asks.
     pub pid: u32,
     /// 0 (NL) to 5 (EX).
     pub mode: u32,
+    /// The flags of the LCK$M_ constants.
     pub flags: u32,
     /// The caller's status block, from 1.
     pub block: u32,
@@ -92,29 +111,41 @@ pub struct VlmRequest {
     pub lock_kind: u32,
     /// 1 if `ast` names a completion routine, or 0.
     pub has_ast: u32,
+    /// The number of the completion routine.
     pub ast: u32,
     /// 1 if `bast` names a blocking routine, or 0.
     pub has_bast: u32,
+    /// The number of the blocking routine.
     pub bast: u32,
     /// Both routines get it.
     pub param: u32,
+    /// All zero.
     pub reserved: [u32; 20],
 }
 
+/// Ends locks of a process, or a wait of one.
 #[repr(C)]
 #[derive(Clone, Copy)]
 pub struct VlmDequeue {
+    /// The size of the struct in bytes.
     pub size: u32,
+    /// The process that asks.
     pub pid: u32,
+    /// The flags of the LCK$M_ constants.
     pub flags: u32,
+    /// The lock, or 0 with LCK$M_DEQALL for all locks of the process.
     pub lock: u32,
+    /// 0 if `lock` is an ID, 1 if it is the status block that holds the ID.
     pub lock_kind: u32,
     /// 1 to write the value block, or 0.
     pub has_value: u32,
     /// 1 to write its tail too, or 0.
     pub has_tail: u32,
+    /// The first 16 bytes of the value block.
     pub value: [u8; 16],
+    /// The other 48 bytes of the value block.
     pub tail: [u8; 48],
+    /// All zero.
     pub reserved: [u32; 9],
 }
 

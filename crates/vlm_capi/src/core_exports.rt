@@ -278,6 +278,7 @@ pub extern "C" fn vlm_pending(handle: &mut Handle, pid: u32, count: &mut usize) 
     copy_out(handle.pending(pid), count)
 }
 
+/// How many processes live.
 #[unsafe(no_mangle)]
 pub extern "C" fn vlm_process_count(handle: &mut Handle) -> usize
     ensures told { result ≡ process_count_shown (core_of handle.old.slot.held) }
@@ -301,6 +302,7 @@ pub extern "C" fn vlm_next_process(handle: &mut Handle, pid: u32, out: &mut VlmP
     copy_out(sized(out.size == PROCESS_SIZE, shown), out)
 }
 
+/// How many resources there are.
 #[unsafe(no_mangle)]
 pub extern "C" fn vlm_resource_count(handle: &mut Handle) -> usize
     ensures told { result ≡ count_shown (core_of handle.old.slot.held) }

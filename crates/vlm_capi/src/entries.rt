@@ -28,6 +28,7 @@ const _: () = prove!(size_of::<VlmCut>() == 32);
 #[repr(C)]
 #[derive(Clone, Copy)]
 pub struct VlmEntry {
+    /// The size of the struct in bytes.
     pub size: u32,
     /// The node that posted the step, or 0 for the hub itself.
     pub sender: u32,
@@ -43,12 +44,19 @@ pub struct VlmEntry {
     pub number: u32,
     /// The length of the name of a new request, or 0 if its bytes were no name.
     pub name_len: u32,
+    /// The AST that a Take took, or none.
     pub ast: VlmAst,
+    /// `name_len` bytes, then zeros.
     pub name: [u8; 32],
+    /// The step of a declaration, or zeros.
     pub declaration: VlmDeclaration,
+    /// The step that sets a value block, or zeros.
     pub setting: VlmSetting,
+    /// The step of a request, or zeros.
     pub request: VlmRequest,
+    /// The step of a dequeue, or zeros.
     pub dequeue: VlmDequeue,
+    /// All zero.
     pub reserved: [u32; 8],
 }
 
@@ -56,6 +64,7 @@ pub struct VlmEntry {
 #[repr(C)]
 #[derive(Clone, Copy)]
 pub struct VlmCut {
+    /// The size of the struct in bytes.
     pub size: u32,
     /// The size of an entry.
     pub entry_size: u32,
@@ -63,6 +72,7 @@ pub struct VlmCut {
     pub base: u64,
     /// How many entries were written.
     pub count: u64,
+    /// All zero.
     pub reserved: [u32; 2],
 }
 

@@ -24,6 +24,7 @@ use crate::shown::{LKSB_SIZE, VlmLksb, lksb_of};
 use std::alloc::{AllocError, Global};
 use vlm_ports::{Part, Turn};
 use vlm_words::conditions::Cond;
+use vlm_words::ids::NODES;
 
 /// Puts a new hub of 1 to 8 nodes into a handle that has nothing. The options must be of this version.
 #[unsafe(no_mangle)]
@@ -39,7 +40,7 @@ pub extern "C" fn vlm_hub_open(
     let Some(keys) = keys_of(options) else {
         return status(Cond::Badparam);
     };
-    if nodes == 0 || nodes > 8 || handle.is_open() {
+    if nodes == 0 || nodes as usize > NODES || handle.is_open() {
         return status(Cond::Badparam);
     }
     match new_hub(alloc, keys, nodes as usize) {

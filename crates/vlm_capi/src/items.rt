@@ -17,6 +17,7 @@ const _: () = prove!(size_of::<VlmItem>() == 64);
 #[repr(C)]
 #[derive(Clone, Copy)]
 pub struct VlmItem {
+    /// The size of the struct in bytes.
     pub size: u32,
     /// 0 for no item, 1 for an answer, 2 for an AST.
     pub kind: u32,
@@ -26,7 +27,9 @@ pub struct VlmItem {
     pub number: u32,
     /// The process that an AST is for.
     pub pid: u32,
+    /// All zero.
     pub reserved: [u32; 3],
+    /// The AST, or none.
     pub ast: VlmAst,
 }
 

@@ -8,8 +8,11 @@ use std::marker::Model;
 
 /// Owns what the box owned. It has no `Drop`, so every `Loose` becomes a box again.
 pub struct Loose<T, A: Allocator> {
+    /// Where the value is.
     pub at: *mut T,
+    /// What the box was allocated by.
     pub alloc: A,
+    /// The value, for proofs alone.
     pub ghost value: { T },
 }
 

@@ -32,7 +32,9 @@ const _: () = prove!(size_of::<VlmText>() == 256);
 #[repr(C)]
 #[derive(Clone, Copy)]
 pub struct VlmText {
+    /// The size of the struct in bytes.
     pub size: u32,
+    /// How many bytes the line has.
     pub len: u32,
     /// `len` bytes, then zeros.
     pub bytes: [u8; 248],

@@ -18,13 +18,17 @@ const _: () = prove!(size_of::<VlmAst>() == 32);
 #[repr(C)]
 #[derive(Clone, Copy)]
 pub struct VlmAst {
+    /// The size of the struct in bytes.
     pub size: u32,
     /// 0 for no AST, 1 for completion, 2 for blocking.
     pub kind: u32,
     /// The request named it, and gave `param` for it.
     pub routine: u32,
+    /// What the routine gets.
     pub param: u32,
+    /// The lock that the AST is about.
     pub lkid: u32,
+    /// All zero.
     pub reserved: [u32; 3],
 }
 

@@ -52,6 +52,7 @@ const TAILS: u32 = 13;
 #[repr(C)]
 #[derive(Clone, Copy)]
 pub struct VlmLine {
+    /// The size of the struct in bytes.
     pub size: u32,
     /// What the line asks for. It says which of the other members count.
     pub kind: u32,
@@ -59,17 +60,23 @@ pub struct VlmLine {
     pub fault: u32,
     /// A node, or a status block.
     pub number: u32,
+    /// How many bytes `name` has.
     pub name_len: u32,
+    /// How many bytes `resource` has.
     pub resource_len: u32,
     /// `name_len` bytes, then zeros: the name of a process.
     pub name: [u8; 16],
     /// `resource_len` bytes, then zeros: the name of a resource.
     pub resource: [u8; 32],
+    /// The step of a declaration, or zeros.
     pub declaration: VlmDeclaration,
+    /// The step that sets a value block, or zeros.
     pub setting: VlmSetting,
     /// A request for a new lock, or a conversion.
     pub request: VlmRequest,
+    /// The step of a dequeue, or zeros.
     pub dequeue: VlmDequeue,
+    /// All zero.
     pub reserved: [u32; 2],
 }
 

@@ -31,14 +31,17 @@ const _: () = prove!(size_of::<VlmLock>() == 64);
 #[repr(C)]
 #[derive(Clone, Copy)]
 pub struct VlmLksb {
+    /// The size of the struct in bytes.
     pub size: u32,
     /// 0 while a request is pending, then the condition that ended it.
     pub status: u32,
     /// The lock of the last accepted request, or 0.
     pub lkid: u32,
+    /// All zero.
     pub reserved: u32,
     /// The value part.
     pub value: [u8; 16],
+    /// The other 48 bytes of the value block.
     pub tail: [u8; 48],
 }
 
@@ -46,11 +49,17 @@ pub struct VlmLksb {
 #[repr(C)]
 #[derive(Clone, Copy)]
 pub struct VlmProcess {
+    /// The size of the struct in bytes.
     pub size: u32,
+    /// The ID of the process.
     pub pid: u32,
+    /// Its node, 1 to 8.
     pub node: u32,
+    /// The UIC group.
     pub group: u32,
+    /// 1 if it has the privilege SYSLCK, or 0.
     pub syslck: u32,
+    /// How many locks it may have (ENQLM).
     pub quota: u32,
     /// How many status blocks it has, numbered from 1.
     pub blocks: u64,
@@ -58,6 +67,7 @@ pub struct VlmProcess {
     pub pending: u64,
     /// How many locks it has, waiting ones included.
     pub locks: u64,
+    /// All zero.
     pub reserved: [u32; 4],
 }
 
@@ -65,6 +75,7 @@ pub struct VlmProcess {
 #[repr(C)]
 #[derive(Clone, Copy)]
 pub struct VlmResource {
+    /// The size of the struct in bytes.
     pub size: u32,
     /// Counts the resources from 1, in order of making.
     pub serial: u32,
@@ -74,13 +85,19 @@ pub struct VlmResource {
     pub is_system: u32,
     /// The UIC group, or 0 in the system's domain.
     pub group: u32,
+    /// 1 if `value` is valid, or 0.
     pub value_valid: u32,
+    /// 1 if `tail` is valid, or 0.
     pub tail_valid: u32,
+    /// How many bytes the name has.
     pub name_len: u32,
     /// `name_len` bytes, then zeros.
     pub name: [u8; 32],
+    /// The first 16 bytes of the value block.
     pub value: [u8; 16],
+    /// The other 48 bytes of the value block.
     pub tail: [u8; 48],
+    /// All zero.
     pub reserved: [u32; 4],
 }
 
@@ -88,13 +105,15 @@ pub struct VlmResource {
 #[repr(C)]
 #[derive(Clone, Copy)]
 pub struct VlmLock {
+    /// The size of the struct in bytes.
     pub size: u32,
     /// 0 after the last lock of a walk.
     pub lkid: u32,
+    /// The process that has the lock.
     pub pid: u32,
-    /// The held and the wanted mode, or 255 for no mode.
+    /// The granted mode, or 255 for no mode.
     pub held: u32,
-    /// A mode, or 255 for no mode.
+    /// The wanted mode, or 255 for no mode.
     pub want: u32,
     /// 0 granted, 1 conversion, 2 waiting.
     pub queue: u32,
@@ -104,6 +123,7 @@ pub struct VlmLock {
     pub parent: u32,
     /// The status block of its last accepted request.
     pub block: u32,
+    /// All zero.
     pub reserved: [u32; 7],
 }
 

@@ -15,6 +15,7 @@ use std::marker::Model;
 #[derive(Drop)]
 pub struct Slot {
     at: *mut u8,
+    /// What is at the pointer, for proofs alone.
     pub ghost held: { Option Held },
 }
 

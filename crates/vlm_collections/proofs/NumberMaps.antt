@@ -1,5 +1,6 @@
 -- What a map from numbers to handles finds, as the set that it is kept in is changed.
-use Rattle.std.proofs.Common.{◌≡◌, ◌∙◌, ◌||◌, ℕ, Bool, true, false, cond, nat_eq, List, [], ◌∷◌, ◌++◌, ◌+◌, not, nat_lt, length, position, slice_index_or, Option, None, Some, is_none, refl, ap, true≢false, arith}
+use Rattle.std.proofs.Common.{◌≡◌, ◌∙◌, ◌||◌, ℕ, Bool, true, false, cond, nat_eq, List, [], ◌∷◌, ◌++◌, ◌+◌, not, nat_lt, length}
+use Rattle.std.proofs.Common.{position, slice_index_or, Option, None, Some, is_none, refl, ap, true≢false, arith}
 use Rattle.std.specs.Cmp.{nat_eq_equiv}
 use Rattle.std.specs.List.{IsDistinct, AllByRecursion, find, list_any, swap_remove}
 use Rattle.std.specs.Map.{keys_of, lookup}

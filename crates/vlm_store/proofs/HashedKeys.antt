@@ -13,7 +13,8 @@ use Rattle.vlm_records.specs.Shown.{Face, face_of}
 use Rattle.vlm_store.specs.declared.hashed.HashedKey.{HashedKey}
 use Rattle.vlm_store.specs.HashedKeys.{hashed, hashed_at, hashed_in, is_same_hashed, is_same_hashed-Decides}
 use Rattle.vlm_store.specs.declared.key_index.KeyIndex.{KeyIndex}
-use Rattle.vlm_store.specs.KeyIndexes.{Enters, FindsNothing, IsHashed, IsIndexed, IsSame, Leaves, LeavesBy, EntersBy, found_by, has_key, if_its, main_of, other_of}
+use Rattle.vlm_store.specs.KeyIndexes.{Enters, EntersBy, FindsNothing, IsHashed, IsIndexed, IsSame, Leaves, LeavesBy}
+use Rattle.vlm_store.specs.KeyIndexes.{found_by, has_key, if_its, main_of, other_of}
 use Rattle.vlm_words.specs.Keys.{is_same_key-Decides}
 use Rattle.vlm_store.specs.Store.{key_at}
 

@@ -118,9 +118,8 @@ invariant_of-self c =
     let is_new = rw c.lkid.ensures at c.insert.ensures.is_new in
     let writes = OnTrue_at (is_new ∙ ap is_none none) (rw (c.of-at.ensures, c.lkid.ensures) at c.insert.ensures.writes) in
     joined_kept new c.join_process.ensures c.join_parent.ensures c.join_wait_list.new.wait_list c.insert.new.self c.join_wait_list.ensures.wait_list
-    (Indexes-added s.lock_index c.insert.new.self lkid (lkid_at s.queues) (lkid_at q') c.add-slot.result
-    writes (ap (option_map lkid_of) c.add-slot.ensures.fresh)
-    (lkids c.add-slot.result ∙ new_lkid new) (λ k differs. lkids k ∙ other_lkids new k differs)
+    (Indexes-added s.lock_index c.insert.new.self lkid (lkid_at s.queues) (lkid_at q') c.add-slot.result writes
+    (ap (option_map lkid_of) c.add-slot.ensures.fresh) (lkids c.add-slot.result ∙ new_lkid new) (λ k differs. lkids k ∙ other_lkids new k differs)
     none kept.locks)
 
 pub returns-clause-added : goal.returns-clause-added
