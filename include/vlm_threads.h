@@ -23,7 +23,8 @@
  * Sizes. Set `size` of every struct before a call. Later versions with the same first two numbers add members at the
  * ends of structs. So a struct may be shorter than the library's: the members that it lacks count as 0, and are not
  * written. These are always there: up to `keys` in options, `tied` in a declaration, `status` in a request, `wide` in a
- * dequeue, `most_waiting` in counters. A struct without them, or longer than the library's, is answered VLM_BADPARAM.
+ * dequeue, `most_waiting` in counters, `waits` in a deadlock, all of a wait. A struct without them, or longer than the
+ * library's, is answered VLM_BADPARAM.
  *
  * Threads. Any thread may make any call for any process, at any time between opening and closing; so may a routine,
  * except where a comment says otherwise. A call holds the layer's mutex while it works, and gives it up while it
@@ -64,7 +65,7 @@ typedef struct vlm_threads vlm_threads;
 
 /* What is told of waits. */
 
-enum { VLM_THREADS_LABEL = 32, VLM_THREADS_CIRCLE = 16 };
+enum { VLM_THREADS_LABEL = 32, VLM_THREADS_CYCLE = 16 };
 
 /* A request that waits, and a lock for which it waits. */
 typedef struct vlm_threads_wait {
@@ -86,7 +87,7 @@ typedef struct vlm_threads_deadlock {
     uint32_t length; /* how many waits the cycle has */
     /* The first of them, at most 16. The first is the victim's request; each next one is of the process that the one
      * before waits for. */
-    vlm_threads_wait waits[VLM_THREADS_CIRCLE];
+    vlm_threads_wait waits[VLM_THREADS_CYCLE];
 } vlm_threads_deadlock;
 
 /* The hooks of a layer. A hook runs without the layer's mutex, and may make any call except vlm_threads_close and

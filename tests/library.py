@@ -110,7 +110,7 @@ def installed(_program):
     shared = [f"{name}.so.{version()}" for name in ("libvlm", "libvlmvms")]
     named = {f"lib/{it.rpartition('.')[0]}": it for it in shared}
     named |= {f"lib/{it.partition('.')[0]}.so": it.rpartition(".")[0] for it in shared}
-    pages = [f"share/man/man3/{call}.3" for call in calls() | {"vlm_condition_name"}]
+    pages = [f"share/man/man3/{call}.3" for call in calls()]
     service = (*SERVICE_FILES * has_uv(), *TLS_FILES * has_openssl())
     yield from difference(sorted(left), sorted([*FILES, *pages, *service, *(f"lib/{it}" for it in shared), *links]))
     yield from difference(links, named)
@@ -180,10 +180,10 @@ def told_by_kit(tool, *words):
 
 
 def calls():
-    """The calls that the installed headers declare, except those that they define."""
+    """The calls that the installed headers declare."""
     text = "".join(it.read_text() for it in (prefix() / "include").glob("*.h"))
     text = re.sub(r"/\*.*?\*/", "", text, flags=re.S)
-    return set(re.findall(r"\b(vlm_\w+)\(", text)) - set(re.findall(r"\bstatic inline [^;{]*?(vlm_\w+)\(", text))
+    return set(re.findall(r"\b(vlm_\w+)\(", text))
 
 
 def shown_names(library, *words):
@@ -528,14 +528,100 @@ def under_older_header(compiler, _program):
         yield from wrong or printed(source, built)
 
 
+# Structs of the layer for threads that later versions may make longer. (A deadlock has an array of waits.)
+GROWING = ("options", "declaration", "event", "request", "dequeue", "counters", "deadlock")
+# Programs over a layer whose structs are longer than theirs. (threads_calls passes structs that are too long.)
+OVER_NEWER = [it for it in SOURCES if re.search(r'#include ["<](vlm_threads|threads_test)\.h', it.read_text())
+              and it.stem not in ("threads_calls", *WRAPPED)]
+
+
+def newer_layer(compiler, sources):
+    """A folder with objects of a layer as a later version may have it, with more members in structs of vlm_threads.h,
+    and what is wrong with making them."""
+    folder = Path(tempfile.mkdtemp(dir=room()))
+    text = (TOP / "include" / "vlm_threads.h").read_text()
+    for name in GROWING:
+        text, count = re.subn(rf"\n}} vlm_threads_{name};", r"\n    uint64_t later[3];\g<0>", text)
+        text, asserts = re.subn(rf"VLM_ASSERT\(sizeof\(struct vlm_threads_{name}\).*", "", text)
+        if (count, asserts) != (1, 1):
+            raise LookupError(f"vlm_threads_{name}")
+    (folder / "vlm_threads.h").write_text(text)
+    return folder, list(ran(compiler, "-std=c11", "-c", *STRICT, "-pthread", f"-I{folder}", f"-I{TOP}/include",
+                            *sources, cwd=folder))
+
+
+def over_newer_library(compiler, _program):
+    """What is wrong with programs of this header over a layer with longer structs."""
+    folder, wrong = newer_layer(compiler, LAYER_SOURCES)
+    yield from wrong
+    for source in () if wrong else OVER_NEWER:
+        built = folder / source.stem
+        words = [*options("none"), source, *folder.glob("*.o"), *package()]
+        yield from list(ran(compiler, *words, "-o", built)) or printed(source, *shortened(50), built)
+
+
+# What the library answers to headers of other versions.
+OPENS = """#include <stdio.h>
+#include <vlm.h>
+#include <vlm_hub.h>
+int main(void) {
+    vlm handle = VLM_CLOSED;
+    vlm_hub hub = VLM_HUB_CLOSED;
+    vlm_options options = VLM_OPTIONS;
+    printf("%s ", vlm_condition_name(vlm_open(&handle, &options)));
+    printf("%s\\n", vlm_condition_name(vlm_hub_open(&hub, 1, &options)));
+    vlm_close(&handle);
+    vlm_hub_close(&hub);
+    return 0;
+}
+"""
+
+
+def other_versions(compiler, _program):
+    """What is wrong with programs of other versions: those with the same first two numbers run, the library refuses
+    others, and the loader takes no library of others."""
+    folder = Path(tempfile.mkdtemp(dir=room()))
+    (folder / "opens.c").write_text(OPENS)
+    header, own = (TOP / "include" / "vlm.h").read_text(), re.compile(r"(?<=#define VLM_VERSION )0x000200")
+    shared = [f"-L{prefix()}/lib", "-lvlm"]
+    for number, answer in ((0x200, "NORMAL"), (0x2ff, "NORMAL"), (0x100, "BADPARAM"), (0x300, "BADPARAM"),
+                           (0x10200, "BADPARAM")):
+        (folder / "vlm.h").write_text(own.sub(f"{number:#08x}", header))
+        (folder / "opens.out").write_text(f"SS$_{answer} SS$_{answer}\n")
+        yield from ran(compiler, "-std=c11", *STRICT, f"-I{folder}", package()[0], folder / "opens.c", *shared, "-o",
+                       folder / "opens")
+        yield from printed(folder / "opens.c", folder / "opens",
+                           env={**os.environ, "LD_LIBRARY_PATH": str(prefix() / "lib")})
+    shutil.copy(prefix() / "lib" / SONAME, folder / "libvlm.so.0.3")
+    ended = subprocess.run([folder / "opens"], capture_output=True, text=True, timeout=SECONDS,
+                           env={**os.environ, "LD_LIBRARY_PATH": str(folder)})
+    if ended.returncode != 127 or f"{SONAME}: cannot open shared object file" not in ended.stderr:
+        yield f"{ended}"
+
+
 def rust(_program):
     """What is wrong with the tests of the package for Rust."""
     copy = room() / "rust"
     shutil.copytree(TOP / "bindings" / "rust", copy / "bindings" / "rust",
                     ignore=shutil.ignore_patterns("target", "Cargo.lock"))
     shutil.copytree(TOP / "tests" / "scripts", copy / "tests" / "scripts")
-    yield from ran("cargo", "test", "--offline", "--quiet", cwd=copy / "bindings" / "rust", seconds=600,
+    # (the test of TLS is in service_tls.py; the others that cargo leaves out by itself need vlmd)
+    more = ["--", "--include-ignored", "--skip", "sessions_by_tls"] if has_uv() else []
+    yield from ran("cargo", "test", "--offline", "--quiet", *more, cwd=copy / "bindings" / "rust", seconds=600,
                    env={**os.environ, "VLM_PREFIX": str(prefix())})
+
+
+def python_tests(package, env):
+    """What is wrong with the tests of the package for Python. They are skipped only for want of a tool."""
+    ended = subprocess.run([sys.executable, "-m", "unittest", "discover", "-v", "-s", "tests"], cwd=package, env=env,
+                           capture_output=True, text=True, timeout=600)
+    if ended.returncode:
+        yield f"unittest: {ended.returncode}: {ended.stderr[-600:]}"
+    there = {"vlmd": has_uv(), "Graphviz": shutil.which("dot"),
+             "browser": shutil.which("chromium") and shutil.which("chromedriver")}
+    skipped = set(re.findall(r"\bskipped ['\"](.*)['\"]$", ended.stderr, re.M))
+    absent = {f"there is no {name}" for name, found in there.items() if not found}
+    yield from (f"tests are skipped: {it}" for it in sorted(skipped - absent))
 
 
 def python(_program):
@@ -547,18 +633,29 @@ def python(_program):
     shutil.copytree(TOP / "tests" / "scripts", copy / "tests" / "scripts")
     shutil.copy(TOP / "tests" / "faulty_scripts.py", copy / "tests")
     package, env = copy / "bindings" / "python", {**os.environ, "VLM_PREFIX": str(prefix())}
-    yield from ran(sys.executable, "-m", "unittest", "discover", "-s", "tests", cwd=package, seconds=600, env=env)
+    yield from python_tests(package, env)
     for page in (TOP / "docs" / "LIBRARY.md", package / "README.md"):
         for block in re.findall(r"^```python\n(.*?)^```", page.read_text(), re.M | re.S):
             yield from ran(sys.executable, "-c", block, cwd=package, env=env)
     if not subprocess.run([sys.executable, "-m", "pip", "--version"], capture_output=True).returncode:
-        there, sources = room() / "installed by pip", package / "sources.tar.gz"
-        pack = "import os, wheels; os.rename(wheels.build_sdist('.'), 'sources.tar.gz')"
-        yield from ran(sys.executable, "-c", pack, cwd=package)
-        yield from ran(sys.executable, "-m", "pip", "install", "--no-index", "--quiet", "--target", there, sources)
-        env["PYTHONPATH"] = str(there)
-        yield from ran(sys.executable, "-c", "import vlm; vlm.Shared().close()", cwd=room(), env=env)
-        yield from ran(there / "bin" / "vlm-draw", PLAY / "a-circle-of-three", cwd=room(), env=env)
+        yield from by_pip(package, env)
+
+
+def by_pip(package, env):
+    """What is wrong with installations by pip without a network: from the packed sources, and an editable one."""
+    there, editable, sources = room() / "installed by pip", room() / "editable", package / "sources.tar.gz"
+    pack = "import os, wheels; os.rename(wheels.build_sdist('.'), 'sources.tar.gz')"
+    yield from ran(sys.executable, "-c", pack, cwd=package)
+    pip = [sys.executable, "-m", "pip", "install", "--no-index", "--quiet", "--target"]
+    yield from ran(*pip, there, sources)
+    env["PYTHONPATH"] = str(there)
+    yield from ran(sys.executable, "-c", "import vlm; vlm.Shared().close()", cwd=room(), env=env)
+    yield from ran(there / "bin" / "vlm-draw", PLAY / "a-circle-of-three", cwd=room(), env=env)
+    yield from ran(*pip, editable, "--editable", package)
+    del env["PYTHONPATH"]
+    script = ("import site, sys; site.addsitedir(sys.argv[1]); import vlm; vlm.Shared().close(); "
+              "sys.exit(vlm.__file__ != sys.argv[2])")
+    yield from ran(sys.executable, "-c", script, editable, package / "vlm" / "__init__.py", cwd=room(), env=env)
 
 
 def first():
@@ -583,6 +680,10 @@ def once():
                        partial(guards, compiler, sanitizer))
                   for sanitizer in SANITIZERS[:2] if sanitizer == "none" or links(compiler, sanitizer)]
     found += [Test(f"a program of an older header by {compiler}", partial(under_older_header, compiler))
+              for compiler in COMPILERS if shutil.which(compiler)]
+    found += [Test(f"{name} by {compiler}", partial(check, compiler))
+              for name, check in (("a program over a newer library", over_newer_library),
+                                  ("programs of other versions", other_versions))
               for compiler in COMPILERS if shutil.which(compiler)]
     found += [Test(f"two heaps in a program by {compiler}", partial(two_heaps, compiler))
               for compiler in COMPILERS if shutil.which(compiler)]

@@ -15,7 +15,7 @@ from project import MISSING, TOP, fail
 # The layers in C, and the sources of each. An object for each, so a program links only what it calls.
 SOURCES = sorted((TOP / "bindings" / "c").glob("*.c"))
 LAYERS = {layer: [it for it in SOURCES if it.stem.startswith(layer)]
-          for layer in ("vlm_threads", "vlm_hub_wait", "vlm_client")}
+          for layer in ("vlm_conditions", "vlm_threads", "vlm_hub_wait", "vlm_client")}
 # The names that both libraries show. All others are local to them.
 SHOWN = ("vlm_*",)
 COMPILE = ["-std=c11", "-O2", "-fPIC", "-pthread", f"-I{TOP / 'include'}", "-c"]
@@ -29,8 +29,8 @@ OPENSSL = ("-lssl", "-lcrypto")
 # The daemon of the service, and the words by which its files are compiled as one.
 DAEMON = sorted((TOP / "service").glob("*.c"))
 AS_ONE = ("-flto", "-flto-partition=none")
-# The commands of the service, which hand all other words to the proved program, and its client.
-COMMANDS = sorted((TOP / "service" / "commands").glob("*.c")) + LAYERS["vlm_client"]
+# The commands of the service, which hand all other words to the proved program, and the layers that they need.
+COMMANDS = [*sorted((TOP / "service" / "commands").glob("*.c")), *LAYERS["vlm_client"], *LAYERS["vlm_conditions"]]
 SHARE = ["-shared", "-pthread", "-Wl,-Bsymbolic", "-Wl,-z,defs", "-Wl,-z,now", "-Wl,-z,relro"]
 
 

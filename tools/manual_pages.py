@@ -5,8 +5,8 @@ from dataclasses import dataclass
 
 # A comment that begins a line, and what follows it up to an empty line.
 COMMENTED = re.compile(r"^/\* ((?:(?!\*/).)*)\*/\n((?:(?!/\*)[^\n]+\n)+)", re.M | re.S)
-# A declaration, or the head of an inline function.
-DECLARED = re.compile(r"^(?:static inline )?((?:uint32_t|size_t|void|const char \*) ?(vlm_\w+)\([^;{]*\))", re.M)
+# A declaration.
+DECLARED = re.compile(r"^((?:uint32_t|size_t|void|const char \*) ?(vlm_\w+)\([^;{]*\))", re.M)
 STRUCT = re.compile(r"^typedef struct (vlm_\w+) \{.*?^\} \1;\n", re.M | re.S)
 # A line that tells when a call has an answer, as `NORMAL: granted.`
 ANSWER = re.compile(r"([A-Z]{3,}(?:, [A-Z]{3,})*): (.*)")

@@ -10,7 +10,7 @@
 #include <sys/socket.h>
 #include <unistd.h>
 
-enum { FIRST_QUEUE = 16, FIRST_OPTIONS = offsetof(vlm_client_options, certificate) };
+enum { FIRST_QUEUE = 16, FIRST_CLIENT_OPTIONS = offsetof(vlm_client_options, certificate) };
 
 static const char usual_socket[] = "/run/vlm/lock.sock";
 
@@ -171,7 +171,7 @@ static uint32_t open_session(const vlm_client_options *options, vlm_client **cli
 /* Copies options. An older header may have made them shorter. */
 static bool is_copied(vlm_client_options *whole, const vlm_client_options *options) {
     *whole = (vlm_client_options){0};
-    if (!is_sized(options->size, FIRST_OPTIONS, sizeof *whole))
+    if (!is_sized(options->size, FIRST_CLIENT_OPTIONS, sizeof *whole))
         return false;
     memcpy(whole, options, options->size);
     return is_valid(whole);
@@ -284,10 +284,10 @@ static uint32_t new_process(vlm_client *client, uint32_t requests) {
 }
 
 static bool is_declaration(const vlm_threads_declaration *declaration) {
-    size_t first = offsetof(vlm_threads_declaration, own_queue);
-    return is_sized(declaration->size, first, sizeof *declaration) && declaration->tied == 0
+    return is_sized(declaration->size, FIRST_DECLARATION, sizeof *declaration) && declaration->tied == 0
            && declaration->quota <= VLM_MAX_QUOTA && declaration->requests != 0
-           && declaration->requests <= MOST_REQUESTS && (declaration->size == first || declaration->own_queue == 0);
+           && declaration->requests <= MOST_REQUESTS
+           && (declaration->size == FIRST_DECLARATION || declaration->own_queue == 0);
 }
 
 static uint32_t declare(vlm_client *client, const vlm_threads_declaration *declaration, uint32_t *pid) {

@@ -36,6 +36,7 @@
 
 #include "vlm_client.h"
 #include "vlm_client_tls.h"
+#include "vlm_sizes.h"
 
 #include <pthread.h>
 #include <sys/socket.h>
@@ -209,12 +210,14 @@ int vlmc_open_socket(int family, int kind);
 uint64_t vlmc_forks(void);
 
 /* vlm_client_sessions.c: none takes a mutex held. vlmc_connect begins a session: VLM_NORMAL or VLM_LOST. vlmc_go_on
- * resumes it at the address whose turn it is. vlmc_is_end tells whether a line says that the session is over, and
- * vlmc_is_own_move whether it says only that an abandoned `resume` of this client was heard late. */
+ * resumes it at the address whose turn it is. vlmc_is_end tells whether a line says that the session is over,
+ * vlmc_is_own_move whether it says only that an abandoned `resume` of this client was heard late, and vlmc_is_cut_off
+ * whether it says that the connection ends. */
 enum { WENT_ON, NOT_THERE, OVER };
 uint32_t vlmc_connect(vlm_client *client);
 int vlmc_go_on(vlm_client *client);
 bool vlmc_is_end(const char *line);
+bool vlmc_is_cut_off(const char *line);
 bool vlmc_is_own_move(vlm_client *client, const char *line);
 
 /* vlm_client_resume.c. vlmc_resume gives the session another connection, by the reader, with no mutex held: whether it
@@ -298,8 +301,5 @@ static inline int cancels_off(void) {
 }
 
 static inline void cancels_back(int before) { pthread_setcancelstate(before, NULL); }
-
-/* Whether the size of a struct of vlm_threads.h is right. An older header may have made it shorter. */
-static inline bool is_sized(uint32_t size, size_t first, size_t whole) { return size >= first && size <= whole; }
 
 #endif

@@ -176,6 +176,8 @@ static bool hear(vlm_client *client, struct lines *lines) {
         uint32_t lkid = is_ast ? lock_of(line) : 0;
         if (vlmc_is_end(line))
             return vlmc_is_own_move(client, line);
+        if (vlmc_is_cut_off(line))
+            return true;
         char *block = completed != NO_RECORD ? next_line(client, lines) : NULL;
         if (completed != NO_RECORD && block == NULL)
             return true;

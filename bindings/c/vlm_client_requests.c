@@ -19,10 +19,10 @@ struct lines {
 };
 
 static bool is_valid(const vlm_threads_request *request, bool is_start) {
-    size_t first = offsetof(vlm_threads_request, released);
-    return is_sized(request->size, first, sizeof *request) && request->mode <= VLM_EX && request->flags <= MOST_BITS
-           && ((request->flags & VLM_VALBLK) == 0 || request->value != NULL)
-           && (request->completion != NULL) == is_start && (request->size == first || request->released == NULL);
+    return is_sized(request->size, FIRST_REQUEST, sizeof *request) && request->mode <= VLM_EX
+           && request->flags <= MOST_BITS && ((request->flags & VLM_VALBLK) == 0 || request->value != NULL)
+           && (request->completion != NULL) == is_start
+           && (request->size == FIRST_REQUEST || request->released == NULL);
 }
 
 uint32_t vlmc_standing(const vlm_client *client, uint32_t pid) {
@@ -315,32 +315,28 @@ static uint32_t make(vlm_client *client, vlm_threads_request *request, const uin
     return status;
 }
 
+static uint32_t ask(vlm_client *client, vlm_threads_request *request, const uint8_t *name, size_t len, bool is_start) {
+    return vlmc_is_usable(client) && is_valid(request, is_start) ? make(client, request, name, len) : VLM_BADPARAM;
+}
+
 uint32_t vlm_client_enq(vlm_client *client, vlm_threads_request *request, const uint8_t *name, size_t name_len) {
-    if (!vlmc_is_usable(client) || !is_valid(request, false))
-        return VLM_BADPARAM;
-    return make(client, request, name, name_len);
+    return ask(client, request, name, name_len, false);
 }
 
 uint32_t vlm_client_convert(vlm_client *client, vlm_threads_request *request) {
-    if (!vlmc_is_usable(client) || !is_valid(request, false))
-        return VLM_BADPARAM;
-    return make(client, request, NULL, 0);
+    return ask(client, request, NULL, 0, false);
 }
 
 uint32_t vlm_client_start_enq(vlm_client *client, vlm_threads_request *request, const uint8_t *name, size_t name_len) {
-    if (!vlmc_is_usable(client) || !is_valid(request, true))
-        return VLM_BADPARAM;
-    return make(client, request, name, name_len);
+    return ask(client, request, name, name_len, true);
 }
 
 uint32_t vlm_client_start_convert(vlm_client *client, vlm_threads_request *request) {
-    if (!vlmc_is_usable(client) || !is_valid(request, true))
-        return VLM_BADPARAM;
-    return make(client, request, NULL, 0);
+    return ask(client, request, NULL, 0, true);
 }
 
 static bool is_valid_dequeue(const vlm_threads_dequeue *dequeue) {
-    return dequeue->size == sizeof *dequeue && dequeue->flags <= MOST_BITS && dequeue->wide <= 1;
+    return is_sized(dequeue->size, FIRST_DEQUEUE, sizeof *dequeue) && dequeue->flags <= MOST_BITS && dequeue->wide <= 1;
 }
 
 /* Whether a granted lock is below a lock of the same process. All are below 0. Trees have at most 16 levels. */

@@ -57,6 +57,9 @@ bool vlmc_is_end(const char *line) {
     return strncmp(line, missed, len) == 0 && line[len + strspn(line + len, "0123456789")] == 0;
 }
 
+/* A line that says that the service ends the connection, and not the session. */
+bool vlmc_is_cut_off(const char *line) { return strcmp(line, "too many bytes") == 0; }
+
 /* A replica that hung may hear a `resume` after the client has gone on elsewhere. That moves the session to a
  * connection that has ended: the client goes on once more. */
 bool vlmc_is_own_move(vlm_client *client, const char *line) {

@@ -180,7 +180,7 @@ uint32_t vlm_threads_close(vlm_threads *layer) {
 
 uint32_t vlm_threads_read_counters(vlm_threads *layer, vlm_threads_counters *counters) {
     uint32_t size = counters->size;
-    if (size < FIRST_COUNTERS || size > sizeof *counters)
+    if (!is_sized(size, FIRST_COUNTERS, sizeof *counters))
         return VLM_BADPARAM;
     vlmt_lock(layer);
     layer->counters.size = size;

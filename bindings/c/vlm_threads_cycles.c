@@ -73,6 +73,6 @@ void vlmt_read_cycle(vlm_threads *layer, struct request *victim, vlm_threads_dea
         .size = sizeof *deadlock, .victim = victim->lkid, .pid = victim->process->entry.id, .length = length};
     const struct process *at = victim->process;
     for (uint32_t place = length; place-- > 0; at = at->visit.reached_by->process)
-        if (place < VLM_THREADS_CIRCLE)
+        if (place < VLM_THREADS_CYCLE)
             vlmt_read_wait(layer, at->visit.reached_by, at->visit.reached_for, &deadlock->waits[place]);
 }

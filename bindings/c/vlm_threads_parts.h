@@ -24,7 +24,7 @@
 #define _POSIX_C_SOURCE 200809L
 
 #include "vlm_descriptors.h"
-#include "vlm_threads.h"
+#include "vlm_sizes.h"
 
 #include <pthread.h>
 #include <stdatomic.h>
@@ -35,15 +35,6 @@ enum { SHORT_VALUE = VLM_VALUE_BYTES, WHOLE_VALUE = VLM_VALUE_BYTES + VLM_TAIL_B
 
 /* The kind of an event that calls a `released` routine, beside those of ASTs. */
 enum { RELEASED = 3 };
-
-/* The parts of structs that programs with an older header have too. */
-enum {
-    FIRST_OPTIONS = offsetof(vlm_threads_options, victim_milliseconds),
-    FIRST_DECLARATION = offsetof(vlm_threads_declaration, own_queue),
-    FIRST_REQUEST = offsetof(vlm_threads_request, released),
-    FIRST_DEQUEUE = sizeof(vlm_threads_dequeue),
-    FIRST_COUNTERS = sizeof(vlm_threads_counters)
-};
 
 static const uint64_t NANOSECONDS = 1000000000;
 
@@ -318,12 +309,11 @@ struct request *vlmt_victim(vlm_threads *layer);
 void vlmt_read_cycle(vlm_threads *layer, struct request *victim, vlm_threads_deadlock *deadlock);
 void vlmt_read_wait(vlm_threads *layer, const struct request *request, uint32_t blocker, vlm_threads_wait *wait);
 
-/* Copies a struct of the caller's: whether its size is right. An older header may have made it shorter. The members
- * that it lacks are 0. */
+/* Copies a struct of the caller's: whether its size is right. The members that it lacks are 0. */
 static inline bool is_copied(void *whole, size_t size, const void *given, size_t first) {
     uint32_t given_size = *(const uint32_t *)given;
     if (given_size != size) {
-        if (given_size < first || given_size > size)
+        if (!is_sized(given_size, first, size))
             return false;
         memset(whole, 0, size);
         memcpy(whole, given, given_size);

@@ -1,9 +1,8 @@
 /* The counters of vlm_threads.h as lines of text, and in the text format of Prometheus; waits and deadlocks as
  * sentences. Not proved. */
-#include "vlm_threads.h"
+#include "vlm_threads_parts.h"
 
 #include <inttypes.h>
-#include <string.h>
 
 /* A counter: where it is in the struct, its name, and what it counts. */
 struct figure {
@@ -49,21 +48,22 @@ static const char *short_name(uint32_t condition) {
     return strncmp(name, "SS$_", 4) ? name : name + 4;
 }
 
-uint32_t vlm_threads_print(const vlm_threads_counters *counters, FILE *file) {
-    if (counters->size != sizeof *counters)
+uint32_t vlm_threads_print(const vlm_threads_counters *given, FILE *file) {
+    vlm_threads_counters counters;
+    if (!is_copied(&counters, sizeof counters, given, FIRST_COUNTERS))
         return VLM_BADPARAM;
     for (size_t i = 0; i < SUMS; i++)
-        fprintf(file, "%-16s %" PRIu64 "\n", sums[i].name, count_of(counters, &sums[i]));
+        fprintf(file, "%-16s %" PRIu64 "\n", sums[i].name, count_of(&counters, &sums[i]));
     for (uint32_t i = 0; i < VLM_THREADS_CONDITIONS; i++)
-        if (counters->refused[i])
-            fprintf(file, "refused %-8s %" PRIu64 "\n", short_name(i), counters->refused[i]);
+        if (counters.refused[i])
+            fprintf(file, "refused %-8s %" PRIu64 "\n", short_name(i), counters.refused[i]);
     for (size_t i = 0; i < LEVELS; i++)
-        fprintf(file, "%-16s %" PRIu64 "\n", levels[i].name, count_of(counters, &levels[i]));
-    fprintf(file, "%-16s %" PRIu64 "\n", "microseconds", counters->microseconds);
+        fprintf(file, "%-16s %" PRIu64 "\n", levels[i].name, count_of(&counters, &levels[i]));
+    fprintf(file, "%-16s %" PRIu64 "\n", "microseconds", counters.microseconds);
     for (uint32_t i = 0; i < VLM_THREADS_TIMES; i++)
-        if (counters->times[i])
+        if (counters.times[i])
             fprintf(file, "%s %-10" PRIu64 " %" PRIu64 "\n", i < VLM_THREADS_TIMES - 1 ? "below" : "above",
-                    UINT64_C(1) << (i < VLM_THREADS_TIMES - 1 ? i : i - 1), counters->times[i]);
+                    UINT64_C(1) << (i < VLM_THREADS_TIMES - 1 ? i : i - 1), counters.times[i]);
     return VLM_NORMAL;
 }
 
@@ -99,21 +99,22 @@ static void print_times(const vlm_threads_counters *counters, FILE *file) {
     fprintf(file, "\nvlm_wait_seconds_count %" PRIu64 "\n", count);
 }
 
-uint32_t vlm_threads_print_prometheus(const vlm_threads_counters *counters, FILE *file) {
+uint32_t vlm_threads_print_prometheus(const vlm_threads_counters *given, FILE *file) {
     char name[32];
-    if (counters->size != sizeof *counters)
+    vlm_threads_counters counters;
+    if (!is_copied(&counters, sizeof counters, given, FIRST_COUNTERS))
         return VLM_BADPARAM;
     for (size_t i = 0; i < SUMS; i++) {
         snprintf(name, sizeof name, "%s_total", sums[i].name);
         head(name, "counter", sums[i].help, file);
-        fprintf(file, "vlm_%s %" PRIu64 "\n", name, count_of(counters, &sums[i]));
+        fprintf(file, "vlm_%s %" PRIu64 "\n", name, count_of(&counters, &sums[i]));
     }
-    print_refused(counters, file);
+    print_refused(&counters, file);
     for (size_t i = 0; i < LEVELS; i++) {
         head(levels[i].name, "gauge", levels[i].help, file);
-        fprintf(file, "vlm_%s %" PRIu64 "\n", levels[i].name, count_of(counters, &levels[i]));
+        fprintf(file, "vlm_%s %" PRIu64 "\n", levels[i].name, count_of(&counters, &levels[i]));
     }
-    print_times(counters, file);
+    print_times(&counters, file);
     return VLM_NORMAL;
 }
 
@@ -173,6 +174,7 @@ static void print_step(const vlm_threads_wait *wait, FILE *file) {
 }
 
 uint32_t vlm_threads_print_wait(const vlm_threads_wait *wait, FILE *file) {
+    /* (it has one size: a deadlock has an array of it) */
     if (wait->size != sizeof *wait)
         return VLM_BADPARAM;
     print_step(wait, file);
@@ -180,18 +182,19 @@ uint32_t vlm_threads_print_wait(const vlm_threads_wait *wait, FILE *file) {
     return VLM_NORMAL;
 }
 
-uint32_t vlm_threads_print_deadlock(const vlm_threads_deadlock *deadlock, FILE *file) {
-    if (deadlock->size != sizeof *deadlock)
+uint32_t vlm_threads_print_deadlock(const vlm_threads_deadlock *given, FILE *file) {
+    vlm_threads_deadlock deadlock;
+    if (!is_copied(&deadlock, sizeof deadlock, given, FIRST_DEADLOCK))
         return VLM_BADPARAM;
-    uint32_t told = deadlock->length < VLM_THREADS_CIRCLE ? deadlock->length : VLM_THREADS_CIRCLE;
+    uint32_t told = deadlock.length < VLM_THREADS_CYCLE ? deadlock.length : VLM_THREADS_CYCLE;
     for (uint32_t i = 0; i < told; i++) {
         fputs(i ? ", " : "A circle: ", file);
-        print_step(&deadlock->waits[i], file);
+        print_step(&deadlock.waits[i], file);
     }
-    if (told < deadlock->length)
-        fprintf(file, ", and %" PRIu32 " more", deadlock->length - told);
-    fprintf(file, "%sThe victim is lock %" PRIu32 " of ", told ? ". " : "", deadlock->victim);
-    print_process(deadlock->waits[0].waits_label, deadlock->pid, file);
+    if (told < deadlock.length)
+        fprintf(file, ", and %" PRIu32 " more", deadlock.length - told);
+    fprintf(file, "%sThe victim is lock %" PRIu32 " of ", told ? ". " : "", deadlock.victim);
+    print_process(deadlock.waits[0].waits_label, deadlock.pid, file);
     fputs(".\n", file);
     return VLM_NORMAL;
 }

@@ -4,16 +4,16 @@
  * time, so it is tried again. */
 #include "threads_test.h"
 
-enum { CIRCLES = 100, THREADS = 20, TRIES = 20 };
+enum { CYCLES = 100, THREADS = 20, TRIES = 20 };
 
 /* A cycle: the first process holds A of the cycle and waits for B, and the second the other way round. */
-struct circle {
+struct cycle {
     uint32_t second;
     char names[2][16];
 };
 
 static vlm_threads *layer;
-static struct circle circles[CIRCLES];
+static struct cycle cycles[CYCLES];
 static atomic_uint told, told_early, between;
 static atomic_bool is_over;
 
@@ -41,21 +41,21 @@ static void await(uint32_t pid, const char *name, vlm_threads_routine completion
     EXPECT(start_enq(layer, &request, name), VLM_NORMAL);
 }
 
-static void begin_circle(struct circle *circle, int number) {
+static void begin_cycle(struct cycle *cycle, int number) {
     for (int i = 0; i < 2; i++)
-        snprintf(circle->names[i], sizeof circle->names[i], "%c%d", "AB"[i], number);
-    uint32_t first = holder_of(circle->names[0]);
-    circle->second = holder_of(circle->names[1]);
-    await(first, circle->names[1], count_grant);
+        snprintf(cycle->names[i], sizeof cycle->names[i], "%c%d", "AB"[i], number);
+    uint32_t first = holder_of(cycle->names[0]);
+    cycle->second = holder_of(cycle->names[1]);
+    await(first, cycle->names[1], count_grant);
 }
 
 /* Closes a cycle, and becomes its victim. */
-static void *close_circle(void *given) {
-    struct circle *circle = given;
-    vlm_threads_request request = asked(circle->second, VLM_EX);
-    EXPECT(enq(layer, &request, circle->names[0]), VLM_DEADLOCK);
+static void *close_cycle(void *given) {
+    struct cycle *cycle = given;
+    vlm_threads_request request = asked(cycle->second, VLM_EX);
+    EXPECT(enq(layer, &request, cycle->names[0]), VLM_DEADLOCK);
     HOLD(request.lkid == 0 && request.status == VLM_DEADLOCK);
-    if (counters_of(layer).searches < CIRCLES)
+    if (counters_of(layer).searches < CYCLES)
         atomic_fetch_add(&told_early, 1);
     atomic_fetch_add(&told, 1);
     return NULL;
@@ -68,28 +68,28 @@ static void *go_on(void *given) {
         EXPECT(enq(layer, &request, "C"), VLM_NORMAL);
         EXPECT(deq(layer, request.pid, request.lkid, 0), VLM_NORMAL);
         uint64_t searches = counters_of(layer).searches;
-        if (searches > 0 && searches < CIRCLES)
+        if (searches > 0 && searches < CYCLES)
             atomic_fetch_add(&between, 1);
     }
     return given;
 }
 
-static void make_circles(pthread_t threads[THREADS]) {
-    for (int i = 0; i < CIRCLES; i++)
-        begin_circle(&circles[i], i);
-    for (int i = 0; i < CIRCLES - THREADS; i++)
-        await(circles[i].second, circles[i].names[0], count_deadlock);
+static void make_cycles(pthread_t threads[THREADS]) {
+    for (int i = 0; i < CYCLES; i++)
+        begin_cycle(&cycles[i], i);
+    for (int i = 0; i < CYCLES - THREADS; i++)
+        await(cycles[i].second, cycles[i].names[0], count_deadlock);
     for (int i = 0; i < THREADS; i++)
-        threads[i] = started(close_circle, &circles[CIRCLES - THREADS + i]);
+        threads[i] = started(close_cycle, &cycles[CYCLES - THREADS + i]);
 }
 
 static void expect_victims(void) {
     uint32_t victims;
-    await_waiting(layer, UINT64_C(2) * CIRCLES);
+    await_waiting(layer, UINT64_C(2) * CYCLES);
     EXPECT(vlm_threads_search(layer, &victims), VLM_NORMAL);
-    HOLD(victims == CIRCLES);
+    HOLD(victims == CYCLES);
     vlm_threads_counters counters = counters_of(layer);
-    HOLD(counters.victims == CIRCLES && counters.searches == CIRCLES + 1 && counters.waiting == CIRCLES);
+    HOLD(counters.victims == CYCLES && counters.searches == CYCLES + 1 && counters.waiting == CYCLES);
     expect_sums(layer);
 }
 
@@ -98,17 +98,17 @@ static void search(void) {
     told = 0;
     is_over = false;
     layer = opened(VLM_THREADS_BY_LAYER, 0);
-    make_circles(threads);
+    make_cycles(threads);
     pthread_t other = started(go_on, NULL);
     expect_victims();
     is_over = true;
     pthread_join(other, NULL);
     for (int i = 0; i < THREADS; i++)
         pthread_join(threads[i], NULL);
-    while (told < CIRCLES)
+    while (told < CYCLES)
         nanosleep(&(struct timespec){.tv_nsec = 100000}, NULL);
     EXPECT(vlm_threads_close(layer), VLM_NORMAL);
-    HOLD(told == CIRCLES);
+    HOLD(told == CYCLES);
 }
 
 int main(void) {

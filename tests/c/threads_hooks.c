@@ -2,7 +2,7 @@
  * and the age of victims. */
 #include "threads_test.h"
 
-enum { CIRCLE = 3, LONG_CIRCLE = 20, RANDOM_PROCESSES = 12, RANDOM_STEPS = 20000 };
+enum { CYCLE = 3, LONG_CYCLE = 20, RANDOM_PROCESSES = 12, RANDOM_STEPS = 20000 };
 
 static vlm_threads *layer;
 
@@ -45,7 +45,7 @@ static uint32_t await(uint32_t pid, const char *name) {
 }
 
 /* Each process holds the resource of its number, and waits for the next one: the last lock. */
-static uint32_t make_circle(const uint32_t *pids, int length) {
+static uint32_t make_cycle(const uint32_t *pids, int length) {
     char name[16];
     uint32_t last = 0;
     for (int i = 0; i < length; i++) {
@@ -67,9 +67,9 @@ static uint32_t searched(void) {
 }
 
 /* The waits follow each other, and lead back to the victim's process. */
-static void check_circle(const vlm_threads_deadlock *deadlock) {
-    uint32_t count = deadlock->length < VLM_THREADS_CIRCLE ? deadlock->length : VLM_THREADS_CIRCLE;
-    HOLD(deadlock->size == sizeof *deadlock && deadlock->length > 0);
+static void check_cycle(const vlm_threads_deadlock *deadlock) {
+    uint32_t count = deadlock->length < VLM_THREADS_CYCLE ? deadlock->length : VLM_THREADS_CYCLE;
+    HOLD(deadlock->size >= sizeof *deadlock && deadlock->length > 0);
     HOLD(deadlock->waits[0].waits.lkid == deadlock->victim && deadlock->waits[0].waits.pid == deadlock->pid);
     for (uint32_t i = 0; i < count; i++) {
         const vlm_threads_wait *wait = &deadlock->waits[i];
@@ -87,38 +87,54 @@ static bool is_random;
 static void print_both_ways(const vlm_threads_deadlock *deadlock) {
     vlm_threads_deadlock alone = *deadlock;
     EXPECT(vlm_threads_print_deadlock(deadlock, stdout), VLM_NORMAL);
+    alone.size = sizeof alone; /* (a newer library's may be longer) */
     alone.length = 0;
     EXPECT(vlm_threads_print_deadlock(&alone, stdout), VLM_NORMAL);
 }
 
 static void note_deadlock(void *context, const vlm_threads_deadlock *deadlock) {
     HOLD(context == &layer && counters_of(layer).victims == told_count);
-    check_circle(deadlock);
+    check_cycle(deadlock);
     told[told_count++] = deadlock->victim;
-    if (!is_random && deadlock->length == CIRCLE)
+    if (!is_random && deadlock->length == CYCLE)
         print_both_ways(deadlock);
     HOLD(vlm_threads_close(layer) == VLM_BADPARAM && vlm_threads_settle(layer) == VLM_BADPARAM);
 }
 
 /* A deadlock is told before its victim ends: processes, locks, modes and names. A long cycle is told in part. */
 static void test_deadlock(void) {
-    uint32_t pids[LONG_CIRCLE] = {0};
+    uint32_t pids[LONG_CYCLE] = {0};
     open_with((vlm_threads_options){.deadlock = note_deadlock, .deadlock_context = &layer});
     pids[0] = declared_as("Anna");
     pids[1] = declared_as("");
     pids[2] = declared_as("Carl");
     HOLD(searched() == 0 && told_count == 0);
-    uint32_t last = make_circle(pids, CIRCLE);
+    uint32_t last = make_cycle(pids, CYCLE);
     HOLD(searched() == 1 && told_count == 1 && told[0] == last && ended_count == 1 && ended[0] == last);
-    for (int i = 0; i < CIRCLE; i++)
+    for (int i = 0; i < CYCLE; i++)
         EXPECT(vlm_threads_rundown(layer, pids[i]), VLM_NORMAL);
-    for (int i = 0; i < LONG_CIRCLE; i++)
+    for (int i = 0; i < LONG_CYCLE; i++)
         pids[i] = declared_as("");
-    last = make_circle(pids, LONG_CIRCLE);
+    last = make_cycle(pids, LONG_CYCLE);
     HOLD(searched() == 1 && told_count == 2 && told[1] == last);
     hold(pids[0], "own");
     last = await(pids[0], "own"); /* it waits for its own process */
     HOLD(searched() == 1 && told_count == 3 && told[2] == last);
+    EXPECT(vlm_threads_close(layer), VLM_NORMAL);
+}
+
+/* Of two queued requests of one process on one resource the second waits for its own process: it ends by DEADLOCK.
+ * Two requests of two processes only wait. */
+static void test_two_requests(void) {
+    open_with((vlm_threads_options){.size = 0});
+    ended_count = 0;
+    uint32_t holder = declared_as(""), held = hold(holder, "T"), pid = declared_as("");
+    uint32_t first = await(pid, "T"), second = await(pid, "T");
+    HOLD(searched() == 1 && ended_count == 1 && ended[0] == second && second != first);
+    await(declared_as(""), "T");
+    HOLD(searched() == 0 && counters_of(layer).waiting == 2);
+    EXPECT(deq(layer, holder, held, 0), VLM_NORMAL);
+    EXPECT(deq(layer, pid, first, VLM_DEQ_CANCEL), VLM_CANCELGRANT); /* the first one is granted */
     EXPECT(vlm_threads_close(layer), VLM_NORMAL);
 }
 
@@ -132,7 +148,7 @@ static void choose_first(void *context, const vlm_threads_deadlock *deadlock) {
 static void test_choice(void) {
     uint32_t count = 0;
     open_with((vlm_threads_options){.deadlock = choose_first, .deadlock_context = &count});
-    make_circle((uint32_t[]){declared_as("P"), declared_as("Q")}, 2);
+    make_cycle((uint32_t[]){declared_as("P"), declared_as("Q")}, 2);
     HOLD(searched() == 0 && count == 1 && counters_of(layer).cancelled == 1 && counters_of(layer).victims == 0);
     EXPECT(vlm_threads_close(layer), VLM_NORMAL);
 }
@@ -141,7 +157,7 @@ static void test_choice(void) {
 static void test_age(void) {
     open_with((vlm_threads_options){.victim_milliseconds = 200});
     ended_count = 0;
-    make_circle((uint32_t[]){declared_as("P"), declared_as("Q")}, 2);
+    make_cycle((uint32_t[]){declared_as("P"), declared_as("Q")}, 2);
     HOLD(searched() == 0 && counters_of(layer).waiting == 2);
     nanosleep(&(struct timespec){.tv_nsec = 210000000}, NULL);
     uint32_t lone = declared_as("R"), young = await(lone, "R0"); /* it is young, and not deadlocked */
@@ -275,6 +291,7 @@ static void test_random(void) {
 
 int main(void) {
     test_deadlock();
+    test_two_requests();
     test_choice();
     test_age();
     test_long_waits();

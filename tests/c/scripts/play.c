@@ -19,6 +19,11 @@ static struct {
 } processes[PROCESSES];
 static size_t process_count;
 
+static const char *const faults[] = {
+    [VLM_FAULT_TOO_LONG] = "too long",         [VLM_FAULT_UNKNOWN_COMMAND] = "unknown command",
+    [VLM_FAULT_WRONG_WORD] = "wrong word",     [VLM_FAULT_NUMBER_OUT_OF_RANGE] = "number out of range",
+    [VLM_FAULT_UNKNOWN_NAME] = "unknown name", [VLM_FAULT_NAME_USED] = "name used"};
+
 static _Noreturn void stop(const char *fault) {
     fprintf(stderr, "line %zu: %s\n", line_number, fault);
     exit(3);
@@ -35,7 +40,7 @@ static uint32_t bound(void) {
 static uint32_t process(void) {
     uint32_t pid = bound();
     if (pid == 0)
-        stop("unknown name");
+        stop(faults[VLM_FAULT_UNKNOWN_NAME]);
     return pid;
 }
 
@@ -52,7 +57,7 @@ static void answer(uint32_t status, uint32_t number) {
 
 static void declare(void) {
     if (bound() != 0)
-        stop("name used");
+        stop(faults[VLM_FAULT_NAME_USED]);
     if (process_count == PROCESSES)
         stop("too many processes");
     uint32_t pid, status = vlm_declare(&handle, &line.declaration, &pid);
@@ -158,7 +163,6 @@ static void play(void) {
 }
 
 int main(void) {
-    static const char *const faults[] = {NULL, "too long", "unknown command", "wrong word", "number out of range"};
     vlm_options options = VLM_OPTIONS;
     char text[LINE + 3]; /* a line that is too long, its line feed and the zero */
     if (vlm_open(&handle, &options) != VLM_NORMAL)
