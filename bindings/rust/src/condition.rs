@@ -3,6 +3,8 @@
 use std::error;
 use std::fmt;
 
+use crate::raw;
+
 /// Why a call was refused, or a request ended without a grant ($ENQ and $DEQ, Condition Values Returned). Departed,
 /// Timeout and Full are this project's own.
 #[derive(Clone, Copy, Debug, PartialEq, Eq, Hash)]
@@ -37,8 +39,17 @@ pub enum Error {
     /// A port knows no free place. Take items, and post again.
     Full,
     /// A number that this version does not know.
-    Other(u32),
+    Other(UnknownCondition),
 }
+
+/// The number of an error that this version does not know. Only [`Condition::of`] makes one, so it is neither a success
+/// nor an error with a name:
+///
+/// ```compile_fail,E0423
+/// let success = vlm::Error::Other(vlm::UnknownCondition(1));
+/// ```
+#[derive(Clone, Copy, Debug, PartialEq, Eq, Hash)]
+pub struct UnknownCondition(u32);
 
 /// The condition value of an answer or of a status block. Widenotvalid is this project's own.
 ///
@@ -47,7 +58,7 @@ pub enum Error {
 ///
 /// assert_eq!(Condition::of(6), Condition::Failed(Error::Deadlock));
 /// assert_eq!(Error::Deadlock.to_string(), "SS$_DEADLOCK");
-/// assert_eq!(Condition::of(1000), Condition::Failed(Error::Other(1000)));
+/// assert!(matches!(Condition::of(1000), Condition::Failed(Error::Other(_))));
 /// ```
 #[derive(Clone, Copy, Debug, PartialEq, Eq, Hash)]
 #[non_exhaustive]
@@ -64,68 +75,59 @@ pub enum Condition {
     Failed(Error),
 }
 
-// Each known condition value: its number in the headers, and its name in the manual, or the plain one of this project's
-// own.
-const CONDITIONS: [(u32, Condition, &str); 27] = [
-    (1, Condition::Normal, "SS$_NORMAL"),
-    (2, Condition::Synch, "SS$_SYNCH"),
-    (3, Condition::Failed(Error::Notqueued), "SS$_NOTQUEUED"),
-    (4, Condition::Failed(Error::Abort), "SS$_ABORT"),
-    (5, Condition::Failed(Error::Cancel), "SS$_CANCEL"),
-    (6, Condition::Failed(Error::Deadlock), "SS$_DEADLOCK"),
-    (7, Condition::Valnotvalid, "SS$_VALNOTVALID"),
-    (8, Condition::Failed(Error::Cancelgrant), "SS$_CANCELGRANT"),
-    (9, Condition::Failed(Error::Sublocks), "SS$_SUBLOCKS"),
-    (10, Condition::Failed(Error::Ivlockid), "SS$_IVLOCKID"),
-    (11, Condition::Failed(Error::Cvtungrant), "SS$_CVTUNGRANT"),
-    (12, Condition::Failed(Error::Parnotgrant), "SS$_PARNOTGRANT"),
-    (13, Condition::Failed(Error::Exdepth), "SS$_EXDEPTH"),
-    (14, Condition::Failed(Error::Exenqlm), "SS$_EXENQLM"),
-    (15, Condition::Failed(Error::Nolockid), "SS$_NOLOCKID"),
-    (16, Condition::Failed(Error::Insfmem), "SS$_INSFMEM"),
-    (17, Condition::Failed(Error::Ivbuflen), "SS$_IVBUFLEN"),
-    (18, Condition::Failed(Error::Badparam), "SS$_BADPARAM"),
-    (19, Condition::Failed(Error::Unsupported), "SS$_UNSUPPORTED"),
-    (20, Condition::Failed(Error::Nosyslck), "SS$_NOSYSLCK"),
-    (21, Condition::Failed(Error::Accvio), "SS$_ACCVIO"),
-    (22, Condition::Failed(Error::Nonexpr), "SS$_NONEXPR"),
-    (23, Condition::Failed(Error::Departed), "DEPARTED"),
-    (24, Condition::Widenotvalid, "WIDENOTVALID"),
-    (
-        vlm_sys::threads::TIMEOUT,
-        Condition::Failed(Error::Timeout),
-        "TIMEOUT",
-    ),
-    (
-        vlm_sys::client::LOST,
-        Condition::Failed(Error::Lost),
-        "LOST",
-    ),
-    (vlm_sys::hub::FULL, Condition::Failed(Error::Full), "FULL"),
+// Each known condition value, with its number in the headers.
+const CONDITIONS: [(u32, Condition); 27] = [
+    (1, Condition::Normal),
+    (2, Condition::Synch),
+    (3, Condition::Failed(Error::Notqueued)),
+    (4, Condition::Failed(Error::Abort)),
+    (5, Condition::Failed(Error::Cancel)),
+    (6, Condition::Failed(Error::Deadlock)),
+    (7, Condition::Valnotvalid),
+    (8, Condition::Failed(Error::Cancelgrant)),
+    (9, Condition::Failed(Error::Sublocks)),
+    (10, Condition::Failed(Error::Ivlockid)),
+    (11, Condition::Failed(Error::Cvtungrant)),
+    (12, Condition::Failed(Error::Parnotgrant)),
+    (13, Condition::Failed(Error::Exdepth)),
+    (14, Condition::Failed(Error::Exenqlm)),
+    (15, Condition::Failed(Error::Nolockid)),
+    (16, Condition::Failed(Error::Insfmem)),
+    (17, Condition::Failed(Error::Ivbuflen)),
+    (18, Condition::Failed(Error::Badparam)),
+    (19, Condition::Failed(Error::Unsupported)),
+    (20, Condition::Failed(Error::Nosyslck)),
+    (21, Condition::Failed(Error::Accvio)),
+    (22, Condition::Failed(Error::Nonexpr)),
+    (23, Condition::Failed(Error::Departed)),
+    (24, Condition::Widenotvalid),
+    (vlm_sys::threads::TIMEOUT, Condition::Failed(Error::Timeout)),
+    (vlm_sys::client::LOST, Condition::Failed(Error::Lost)),
+    (vlm_sys::hub::FULL, Condition::Failed(Error::Full)),
 ];
 
 impl Condition {
     /// The condition of a number. Each number has one.
     pub fn of(number: u32) -> Condition {
         let known = CONDITIONS.iter().find(|known| known.0 == number);
-        known.map_or(Condition::Failed(Error::Other(number)), |known| known.1)
+        let unknown = Condition::Failed(Error::Other(UnknownCondition(number)));
+        known.map_or(unknown, |known| known.1)
     }
 
     /// Its number in the headers of the library.
     pub fn number(self) -> u32 {
         match self {
-            Condition::Failed(Error::Other(number)) => number,
-            _ => self.known().map_or(0, |known| known.0),
+            Condition::Failed(Error::Other(unknown)) => unknown.0,
+            known => CONDITIONS
+                .iter()
+                .find(|it| it.1 == known)
+                .map_or(0, |it| it.0),
         }
     }
 
     /// Its name in the manual, such as SS$_DEADLOCK, or the plain one of this project's own.
     pub fn name(self) -> &'static str {
-        self.known().map_or("an unknown condition", |known| known.2)
-    }
-
-    fn known(self) -> Option<&'static (u32, Condition, &'static str)> {
-        CONDITIONS.iter().find(|known| known.1 == self)
+        raw::condition_name(self.number()).unwrap_or("an unknown condition")
     }
 
     /// Whether it is the status of a request that was granted.
@@ -142,20 +144,10 @@ impl Condition {
     }
 }
 
-impl Error {
-    /// The error of a call that was not answered NORMAL.
-    pub(crate) fn of(status: u32) -> Error {
-        match Condition::of(status) {
-            Condition::Failed(error) => error,
-            _ => Error::Other(status),
-        }
-    }
-}
-
 impl fmt::Display for Condition {
     fn fmt(&self, f: &mut fmt::Formatter<'_>) -> fmt::Result {
         match self {
-            Condition::Failed(Error::Other(number)) => write!(f, "condition {number}"),
+            Condition::Failed(Error::Other(unknown)) => write!(f, "condition {}", unknown.0),
             known => f.write_str(known.name()),
         }
     }

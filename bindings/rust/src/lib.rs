@@ -8,8 +8,8 @@
 //!   status block tells of its end, and an AST is pending if it names a routine.
 //! - [`hub`] is for threads that never wait: each posts its steps at a port of its own, and takes answers and ASTs.
 //!
-//! docs/LIBRARY.md of the repository says what is proved of the library and what each call answers. The wrapper itself
-//! is Rust, and nothing of it is proved.
+//! docs/LAWS.md of the repository says what is proved of the library, and include/vlm.h what each call answers. The
+//! wrapper itself is Rust, and nothing of it is proved.
 //!
 //! ```
 //! use std::time::Duration;
@@ -70,7 +70,7 @@ mod shared;
 mod views;
 mod walks;
 
-pub use condition::{Condition, Error};
+pub use condition::{Condition, Error, UnknownCondition};
 pub use flags::{DeqFlags, EnqFlags};
 pub use manager::LockManager;
 pub use names::{Domain, LockId, Mode, ProcessId, Queue, ResourceId, Which};

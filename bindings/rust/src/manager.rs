@@ -39,10 +39,8 @@ impl LockManager {
 
     /// A lock manager whose index of names hashes by these keys. INSFMEM where memory is refused.
     pub fn with_keys(keys: [u8; 16]) -> Result<LockManager, Error> {
-        match raw::Handle::open(keys) {
-            Ok(handle) => Ok(LockManager { handle }),
-            Err(status) => Err(Error::of(status)),
-        }
+        let handle = raw::Handle::open(keys)?;
+        Ok(LockManager { handle })
     }
 
     /// Declares a process. BADPARAM, DEPARTED, INSFMEM.

@@ -2,8 +2,11 @@
 //! `shared/raw.rs`.
 
 use std::cell::UnsafeCell;
+use std::ffi::CStr;
 
 pub use vlm_sys::*;
+
+use crate::condition::{answered, Error};
 
 /// A handle that owns its lock manager. Steps take it by `&mut`. Readings take it by `&`, though C wants to write to it
 /// for the length of a call: so it is no `Sync`, and one call at a time has it.
@@ -82,19 +85,15 @@ calls! {
 }
 
 impl Handle {
-    /// A handle whose lock manager hashes names by these keys, or the condition value that refused it.
-    pub fn open(keys: [u8; 16]) -> Result<Handle, u32> {
+    /// A handle whose lock manager hashes names by these keys.
+    pub fn open(keys: [u8; 16]) -> Result<Handle, Error> {
         let mut raw = Vlm::CLOSED;
         // SAFETY: a handle of zeros has no lock manager, and the references don't overlap.
         let status = unsafe { vlm_open(&mut raw, &Options::with_keys(keys)) };
         let handle = Handle {
             raw: UnsafeCell::new(raw),
         };
-        if status == 1 {
-            Ok(handle)
-        } else {
-            Err(status)
-        }
+        answered(status).map(|_| handle)
     }
 
     pub fn enq(&mut self, request: &Request, name: &[u8], lkid: &mut u32) -> u32 {
@@ -122,4 +121,15 @@ free_calls! {
 pub fn read_line(bytes: &[u8], line: &mut Line) -> u32 {
     // SAFETY: as above; a slice's pointer is not null where it is empty, too.
     unsafe { vlm_read_line(bytes.as_ptr(), bytes.len(), line) }
+}
+
+/// The name of a condition value, if it has one.
+pub fn condition_name(status: u32) -> Option<&'static str> {
+    // SAFETY: every number may be asked for.
+    let name = unsafe { vlm_condition_name(status) };
+    if name.is_null() {
+        return None;
+    }
+    // SAFETY: a name is a text of the library that lasts as long as the program.
+    unsafe { CStr::from_ptr(name) }.to_str().ok()
 }

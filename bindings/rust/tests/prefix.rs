@@ -6,14 +6,10 @@ use std::process::Command;
 /// A relative path would be one below the folder of vlm-sys.
 #[test]
 fn a_relative_prefix_is_refused() {
-    let package = Path::new(env!("CARGO_MANIFEST_DIR")).join("vlm-sys");
-    if !package.exists() {
-        return;
-    }
     let checked = Command::new(env!("CARGO"))
         .args(["check", "--offline", "--target-dir"])
         .arg(env!("CARGO_TARGET_TMPDIR"))
-        .current_dir(package)
+        .current_dir(Path::new(env!("CARGO_MANIFEST_DIR")).join("vlm-sys"))
         .env("VLM_PREFIX", "prefix")
         .output()
         .expect("cargo");

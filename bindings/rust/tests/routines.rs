@@ -1,30 +1,19 @@
 //! Closures that are told of ends and warnings.
 
+mod two;
+
 use std::panic::{catch_unwind, AssertUnwindSafe};
 use std::sync::atomic::{AtomicUsize, Ordering::SeqCst};
 use std::sync::mpsc::channel;
 use std::sync::{Arc, Mutex};
 
 use vlm::{
-    AstKind, Client, Condition, DeqFlags, Dequeue, EnqFlags, Error, LockId, LockManager, Mode,
-    Options, ProcessId, Shared, Terms,
+    AstKind, Condition, DeqFlags, Dequeue, EnqFlags, Error, LockId, LockManager, Mode, Options,
+    ProcessId, Shared, Terms,
 };
 
 fn two() -> (Shared, ProcessId, ProcessId) {
-    let shared = Options::new().by_program().open().expect("memory");
-    let declare = |node| {
-        shared.declare(&Client {
-            node,
-            quota: 9,
-            requests: 3,
-            ..Client::default()
-        })
-    };
-    let (p, q) = (
-        declare(1).expect("a process"),
-        declare(2).expect("a process"),
-    );
-    (shared, p, q)
+    two::opened(Options::new().by_program())
 }
 
 fn await_event(shared: &Shared) {

@@ -1,4 +1,4 @@
-//! Connections to the lock service, over a vlmd of its own: the one in VLM_PREFIX/bin. Without one nothing is tested.
+//! Connections to the lock service, over a vlmd of its own: `cargo test -- --ignored` with the vlmd in VLM_PREFIX/bin.
 
 use std::env;
 use std::fs;
@@ -28,30 +28,29 @@ struct Daemon {
     child: Child,
 }
 
-fn started(folder: &Path) -> Option<Child> {
-    let vlmd = Path::new(&env::var_os("VLM_PREFIX")?)
-        .join("bin")
-        .join("vlmd");
-    if !vlmd.exists() {
-        return None;
-    }
+fn started(folder: &Path) -> Child {
+    let prefix = env::var_os("VLM_PREFIX").expect("VLM_PREFIX is a folder with bin/vlmd");
+    let vlmd = Path::new(&prefix).join("bin").join("vlmd");
     let words = [
         Path::new("-s"),
         &folder.join("socket"),
         Path::new("-c"),
         &folder.join("conf"),
     ];
-    let made = Command::new(vlmd).args(words).stderr(Stdio::null()).spawn();
-    Some(made.expect("vlmd starts"))
+    let made = Command::new(&vlmd)
+        .args(words)
+        .stderr(Stdio::null())
+        .spawn();
+    made.unwrap_or_else(|error| panic!("{}: {error}", vlmd.display()))
 }
 
 impl Daemon {
-    fn new(name: &str) -> Option<Daemon> {
+    fn new(name: &str) -> Daemon {
         let folder = env::temp_dir().join(format!("vlm-{}-{name}", process::id()));
         fs::create_dir_all(&folder).expect("a folder");
         fs::write(folder.join("conf"), "search 100\ngrace 0\n").expect("a file");
-        let child = started(&folder)?;
-        Some(Daemon { folder, child })
+        let child = started(&folder);
+        Daemon { folder, child }
     }
 
     /// Two connections, which hear of no loss.
@@ -133,10 +132,9 @@ fn within(milliseconds: u64) -> Terms {
 }
 
 #[test]
+#[ignore = "needs VLM_PREFIX/bin/vlmd"]
 fn locks_exclude_each_other_and_hand_values_over() {
-    let Some(daemon) = Daemon::new("locks") else {
-        return;
-    };
+    let daemon = Daemon::new("locks");
     let (one, other) = daemon.connections();
     let (p, q) = (one.declare(9, 2).unwrap(), other.declare(9, 2).unwrap());
     let keeper = one.lock(p, b"A", Mode::Nl).unwrap();
@@ -169,10 +167,9 @@ fn locks_exclude_each_other_and_hand_values_over() {
 }
 
 #[test]
+#[ignore = "needs VLM_PREFIX/bin/vlmd"]
 fn tokens_rise_with_grants() {
-    let Some(daemon) = Daemon::new("tokens") else {
-        return;
-    };
+    let daemon = Daemon::new("tokens");
     let (one, other) = daemon.connections();
     let (p, q) = (one.declare(9, 2).unwrap(), other.declare(9, 2).unwrap());
     let mut guard = one.lock(p, b"A", Mode::Ex).unwrap();
@@ -194,10 +191,9 @@ fn tokens_rise_with_grants() {
 }
 
 #[test]
+#[ignore = "needs VLM_PREFIX/bin/vlmd"]
 fn routines_are_called_by_a_delivery() {
-    let Some(daemon) = Daemon::new("routines") else {
-        return;
-    };
+    let daemon = Daemon::new("routines");
     let (one, other) = daemon.connections();
     let (p, q) = (one.declare(9, 2).unwrap(), other.declare(9, 2).unwrap());
     let (told, events) = channel();
@@ -229,10 +225,9 @@ fn routines_are_called_by_a_delivery() {
 }
 
 #[test]
+#[ignore = "needs VLM_PREFIX/bin/vlmd"]
 fn a_loss_is_told_and_a_new_session_holds_nothing() {
-    let Some(mut daemon) = Daemon::new("loss") else {
-        return;
-    };
+    let mut daemon = Daemon::new("loss");
     let losses = Arc::new(AtomicUsize::new(0));
     let counted = losses.clone();
     let connection = daemon.connection(move || {
@@ -254,7 +249,7 @@ fn a_loss_is_told_and_a_new_session_holds_nothing() {
         (connection.declare(9, 1), connection.reopen()),
         (Err(Error::Lost), Err(Error::Lost))
     );
-    daemon.child = started(&daemon.folder).unwrap();
+    daemon.child = started(&daemon.folder);
     drop(daemon.connection(|| ()));
     begins_anew(&connection, p);
     assert_eq!(losses.load(Ordering::SeqCst), 1);
@@ -289,13 +284,11 @@ fn file(name: &str) -> PathBuf {
     env::var_os(name).expect(name).into()
 }
 
-/// VLM_TLS_ADDRESS is a replica with TLS, which tests/service_tls.py of the repository has. VLM_TLS_OTHER is a folder
-/// with the files of a client whom the replica refuses.
+/// VLM_TLS_ADDRESS is a replica with TLS. VLM_TLS_OTHER is a folder with the files of a client whom it refuses.
 #[test]
+#[ignore = "needs a replica with TLS, which tests/service_tls.py of the repository has"]
 fn sessions_by_tls() {
-    let Ok(address) = env::var("VLM_TLS_ADDRESS") else {
-        return;
-    };
+    let address = env::var("VLM_TLS_ADDRESS").expect("VLM_TLS_ADDRESS");
     let lease = Duration::from_secs(60);
     let own = TlsFiles {
         certificate: file("VLM_TLS_CERTIFICATE"),
@@ -320,10 +313,9 @@ fn sessions_by_tls() {
 }
 
 #[test]
+#[ignore = "needs VLM_PREFIX/bin/vlmd"]
 fn a_session_goes_on_at_another_replica() {
-    let Some(daemon) = Daemon::new("replicas") else {
-        return;
-    };
+    let daemon = Daemon::new("replicas");
     let other = daemon.connection(|| ());
     let (one, two) = (Replica::new(&daemon), Replica::new(&daemon));
     let address = format!("tcp:{},{}", one.address, two.address);
@@ -345,11 +337,10 @@ fn a_session_goes_on_at_another_replica() {
 }
 
 #[test]
+#[ignore = "needs VLM_PREFIX/bin/vlmd"]
 #[should_panic(expected = "of a routine")]
 fn a_panic_of_a_routine_goes_on_in_the_delivery() {
-    let Some(daemon) = Daemon::new("panic") else {
-        panic!("of a routine")
-    };
+    let daemon = Daemon::new("panic");
     let connection = daemon.connection(|| ());
     let p = connection.declare(9, 2).unwrap();
     connection
@@ -361,10 +352,9 @@ fn a_panic_of_a_routine_goes_on_in_the_delivery() {
 }
 
 #[test]
+#[ignore = "needs VLM_PREFIX/bin/vlmd"]
 fn closures_go_with_their_process_and_their_connection() {
-    let Some(daemon) = Daemon::new("closures") else {
-        return;
-    };
+    let daemon = Daemon::new("closures");
     let (one, other) = daemon.connections();
     let [p, q, r] = [&one, &other, &other].map(|it| it.declare(9, 2).unwrap());
     let _held = one.lock(p, b"A", Mode::Ex).unwrap();
@@ -410,10 +400,9 @@ fn panics<T>(call: impl FnOnce() -> T) -> bool {
 }
 
 #[test]
+#[ignore = "needs VLM_PREFIX/bin/vlmd"]
 fn a_panic_of_a_drop_goes_on_from_its_call() {
-    let Some(daemon) = Daemon::new("bombs") else {
-        return;
-    };
+    let daemon = Daemon::new("bombs");
     let (one, other) = daemon.connections();
     let (p, q) = (one.declare(9, 9).unwrap(), one.declare(9, 9).unwrap());
     let start = |process, name, terms| one.start(process, name, Mode::Ex, terms, with_bomb());
@@ -440,10 +429,9 @@ fn a_panic_of_a_drop_goes_on_from_its_call() {
 }
 
 #[test]
+#[ignore = "needs VLM_PREFIX/bin/vlmd"]
 fn a_parent_is_a_lock_of_the_service() {
-    let Some(daemon) = Daemon::new("parents") else {
-        return;
-    };
+    let daemon = Daemon::new("parents");
     let connection = daemon.connection(|| ());
     let p = connection.declare(9, 2).unwrap();
     let shared = Shared::new().unwrap();
@@ -496,10 +484,9 @@ fn lock_often(connection: &Connection, process: ProcessId, name: &[u8], is_over:
 }
 
 #[test]
+#[ignore = "needs VLM_PREFIX/bin/vlmd"]
 fn a_forked_child_is_refused_beside_threads() {
-    let Some(daemon) = Daemon::new("forks") else {
-        return;
-    };
+    let daemon = Daemon::new("forks");
     let connection = daemon.connection(|| ());
     let process = connection.declare(9, 9).expect("a process");
     let terms = Terms::new().blocking(|_| ());

@@ -1,29 +1,29 @@
 //! Each call of `Shared` and `Guard` once, with what it refuses.
 
+mod two;
+
 use std::time::Duration;
 
 use vlm::{Client, EnqFlags, Error, Guard, LockId, Mode, Options, ProcessId, Shared, Terms};
 
 const NOBODY: ProcessId = ProcessId(12345);
 
-fn declaration(node: u8) -> Client<'static> {
-    Client {
-        node,
-        quota: 9,
-        requests: 3,
-        ..Client::default()
-    }
-}
-
 fn two() -> (Shared, ProcessId, ProcessId) {
-    let shared = Options::new().keys([7; 16]).open().expect("memory");
-    let p = shared.declare(&declaration(1)).expect("a process");
-    let q = shared.declare(&declaration(2)).expect("a process");
-    (shared, p, q)
+    two::opened(Options::new().keys([7; 16]))
 }
 
 fn with_value() -> Terms {
     Terms::new().flags(EnqFlags::VALBLK)
+}
+
+/// Two locks on A with the value block.
+fn reader_and_writer(shared: &Shared, p: ProcessId, q: ProcessId) -> (Guard, Guard) {
+    let lock = |process, mode| {
+        shared
+            .lock_with(process, b"A", mode, with_value())
+            .expect("a lock")
+    };
+    (lock(p, Mode::Nl), lock(q, Mode::Ex))
 }
 
 fn resources(shared: &Shared) -> usize {
@@ -87,7 +87,7 @@ fn a_process_has_as_many_requests_as_it_declared() {
     let process = shared
         .declare(&Client {
             requests: 1,
-            ..declaration(1)
+            ..two::declaration(1)
         })
         .expect("a process");
     for _ in 0..9 {
@@ -106,11 +106,11 @@ fn a_process_has_as_many_requests_as_it_declared() {
     drop(shared.lock(process, b"B", Mode::Ex).expect("a lock"));
     let none = Client {
         requests: 0,
-        ..declaration(1)
+        ..two::declaration(1)
     };
     let long = Client {
         label: "a label of two and thirty bytes.",
-        ..declaration(1)
+        ..two::declaration(1)
     };
     assert_eq!(shared.declare(&none), Err(Error::Badparam));
     assert_eq!(shared.declare(&long), Err(Error::Badparam));
@@ -119,12 +119,7 @@ fn a_process_has_as_many_requests_as_it_declared() {
 #[test]
 fn the_value_block_goes_from_lock_to_lock() {
     let (shared, p, q) = two();
-    let mut reader = shared
-        .lock_with(p, b"A", Mode::Nl, with_value())
-        .expect("a lock");
-    let mut writer = shared
-        .lock_with(q, b"A", Mode::Ex, with_value())
-        .expect("a lock");
+    let (mut reader, mut writer) = reader_and_writer(&shared, p, q);
     assert_eq!(
         (
             writer.value(),
@@ -157,12 +152,7 @@ fn the_value_block_goes_from_lock_to_lock() {
 #[test]
 fn an_ended_writer_leaves_an_invalid_value() {
     let (shared, p, q) = two();
-    let mut reader = shared
-        .lock_with(p, b"A", Mode::Nl, with_value())
-        .expect("a lock");
-    let mut writer = shared
-        .lock_with(q, b"A", Mode::Ex, with_value())
-        .expect("a lock");
+    let (mut reader, mut writer) = reader_and_writer(&shared, p, q);
     assert_eq!(shared.rundown(q), Ok(()));
     assert_eq!(shared.rundown(q), Err(Error::Nonexpr));
     assert_eq!(writer.release(), Err(Error::Nonexpr));

@@ -1,29 +1,18 @@
 //! Waits for grants, among threads.
 
+mod two;
+
 use std::sync::atomic::{AtomicU64, Ordering::Relaxed};
 use std::thread;
 use std::time::Duration;
 
-use vlm::{Client, Error, LockId, Mode, ProcessId, Queue, Shared};
+use vlm::{Client, Error, LockId, Mode, Options, ProcessId, Queue, Shared};
 
 const RACES: u32 = 400;
 const LONGEST: Duration = Duration::from_secs(30);
 
 fn two() -> (Shared, ProcessId, ProcessId) {
-    let shared = Shared::new().expect("memory");
-    let declare = |node| {
-        shared.declare(&Client {
-            node,
-            quota: 9,
-            requests: 4,
-            ..Client::default()
-        })
-    };
-    let (p, q) = (
-        declare(1).expect("a process"),
-        declare(2).expect("a process"),
-    );
-    (shared, p, q)
+    two::opened(Options::new())
 }
 
 /// Waits until a request is in the queue of the first resource, and returns its lock.

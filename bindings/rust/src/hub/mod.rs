@@ -78,19 +78,14 @@ impl Hub {
 
     /// The same, with these keys.
     pub fn with_keys(nodes: u8, keys: [u8; 16]) -> Result<Hub, Error> {
-        match raw::Hub::open(u32::from(nodes), keys) {
-            Ok(handle) => Ok(Hub { handle }),
-            Err(status) => Err(Error::of(status)),
-        }
+        let handle = raw::Hub::open(u32::from(nodes), keys)?;
+        Ok(Hub { handle })
     }
 
     /// The port of a node. The hub gives it once. BADPARAM: there is no such node, or its port was given before.
     /// INSFMEM: the hub still has the port.
     pub fn port(&mut self, node: u8) -> Result<Port, Error> {
-        match self.handle.port(u32::from(node)) {
-            Ok(handle) => Ok(Port::of(handle)),
-            Err(status) => Err(Error::of(status)),
-        }
+        self.handle.port(u32::from(node)).map(Port::of)
     }
 
     /// Attends to each node once: it sends one of the node's pending ASTs, then makes and answers one of its posts. It

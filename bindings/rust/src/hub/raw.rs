@@ -4,6 +4,7 @@ use std::cell::UnsafeCell;
 
 pub use vlm_sys::hub::*;
 
+use crate::condition::{answered, Error};
 use crate::raw::{calls, Declaration, Dequeue, Lksb, Options, Request, Setting};
 
 /// A handle that owns its hub. As a handle of a lock manager it is no `Sync`: one call at a time has it.
@@ -70,34 +71,26 @@ calls! {
 }
 
 impl Hub {
-    /// A handle of a new hub whose lock manager hashes names by these keys, or the condition value that refused it.
-    pub fn open(nodes: u32, keys: [u8; 16]) -> Result<Hub, u32> {
+    /// A handle of a new hub whose lock manager hashes names by these keys.
+    pub fn open(nodes: u32, keys: [u8; 16]) -> Result<Hub, Error> {
         let mut raw = VlmHub::CLOSED;
         // SAFETY: a handle of zeros has no hub, and the references don't overlap.
         let status = unsafe { vlm_hub_open(&mut raw, nodes, &Options::with_keys(keys)) };
         let hub = Hub {
             raw: UnsafeCell::new(raw),
         };
-        if status == 1 {
-            Ok(hub)
-        } else {
-            Err(status)
-        }
+        answered(status).map(|_| hub)
     }
 
-    /// A handle of the port of a node, or the condition value that refused it.
-    pub fn port(&mut self, node: u32) -> Result<Port, u32> {
+    /// A handle of the port of a node.
+    pub fn port(&mut self, node: u32) -> Result<Port, Error> {
         let mut raw = VlmPort::CLOSED;
         // SAFETY: as in the calls above; a handle of zeros has no port.
         let status = unsafe { vlm_hub_port(self.raw.get(), node, &mut raw) };
         let port = Port {
             raw: UnsafeCell::new(raw),
         };
-        if status == 1 {
-            Ok(port)
-        } else {
-            Err(status)
-        }
+        answered(status).map(|_| port)
     }
 
     pub fn cut(&mut self, entries: &mut [Entry], cut: &mut Cut) -> u32 {

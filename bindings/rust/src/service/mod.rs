@@ -127,15 +127,8 @@ impl Connection {
     }
 
     fn opened(how: &Opening, loss: Option<LostRun>) -> Result<Connection, Error> {
-        match Connected::open(how, loss) {
-            Ok(client) => Ok(Connection {
-                client: Arc::new(client),
-            }),
-            Err(answer) => {
-                checked(answer)?;
-                Err(Error::Lost)
-            }
-        }
+        let client = Arc::new(Connected::open(how, loss)?);
+        Ok(Connection { client })
     }
 
     fn client(&self) -> &Connected {

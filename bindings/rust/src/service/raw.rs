@@ -9,6 +9,7 @@ use std::sync::{Arc, Mutex, MutexGuard, Once, PoisonError};
 use vlm_sys::client::*;
 use vlm_sys::threads::{Declaration, Dequeue, Event as RawEvent, Request};
 
+use crate::condition::{answered, Error};
 use crate::panics::{going_on, guarded};
 use crate::shared::Blocking;
 use crate::Event;
@@ -192,7 +193,7 @@ fn pointer_of(text: &Option<CString>) -> *const c_char {
 
 impl Connected {
     /// Connects to a socket, or to addresses with a lease.
-    pub fn open(how: &Opening, loss: Option<LostRun>) -> Result<Connected, u32> {
+    pub fn open(how: &Opening, loss: Option<LostRun>) -> Result<Connected, Error> {
         watch_forks();
         let mut opened = Connected {
             client: ptr::null_mut(),
@@ -210,10 +211,8 @@ impl Connected {
             options.lost_context = opened.number_of(0, Known::Loss(loss)) as *mut c_void;
         }
         // SAFETY: the options and their texts live as long as the call, which copies them.
-        match unsafe { vlm_client_open(&options, &mut opened.client) } {
-            NORMAL => Ok(opened),
-            status => Err(status),
-        }
+        let status = unsafe { vlm_client_open(&options, &mut opened.client) };
+        answered(status).map(|_| opened)
     }
 
     /// Gives a closure of a process a number.

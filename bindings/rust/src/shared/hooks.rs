@@ -119,9 +119,7 @@ impl Options {
 
     /// Opens a lock manager with nothing in it. INSFMEM: memory or a thread was refused.
     pub fn open(self) -> Result<Shared, Error> {
-        Layer::open(self.words, self.hooks)
-            .map(Shared::of)
-            .map_err(Error::of)
+        Layer::open(self.words, self.hooks).map(Shared::of)
     }
 }
 

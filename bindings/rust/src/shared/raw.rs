@@ -12,6 +12,7 @@ pub use vlm_sys::threads::*;
 
 use super::hooks::Hooks;
 use super::routines::Routines;
+use crate::condition::{answered, Error};
 use crate::manager::LockManager;
 use crate::panics::{going_on, guarded, kept};
 use crate::raw::Vlm;
@@ -50,7 +51,7 @@ layer_calls! {
 }
 
 impl Layer {
-    pub fn open(mut options: Options, hooks: Hooks) -> Result<Layer, u32> {
+    pub fn open(mut options: Options, hooks: Hooks) -> Result<Layer, Error> {
         let has_hooks = hooks.describe(&mut options, told_deadlock, told_wait);
         let hooks = Box::into_raw(Box::new(hooks));
         if has_hooks {
@@ -59,13 +60,14 @@ impl Layer {
         let mut pointer = null_mut();
         // SAFETY: the hooks live as long as the layer.
         let status = unsafe { vlm_threads_open(&options, &mut pointer) };
-        NonNull::new(pointer)
-            .map(|pointer| Layer { pointer, hooks })
-            .ok_or_else(|| {
+        match NonNull::new(pointer) {
+            Some(pointer) => Ok(Layer { pointer, hooks }),
+            None => {
                 // SAFETY: without a layer nobody else has the hooks.
                 drop(unsafe { Box::from_raw(hooks) });
-                status
-            })
+                Err(answered(status).err().unwrap_or(Error::Insfmem))
+            }
+        }
     }
 
     /// Makes a request, for a new lock if there is a name. With VALBLK the value block is in `value`.

@@ -5,7 +5,7 @@ pub mod client;
 pub mod hub;
 pub mod threads;
 
-use std::ffi::c_void;
+use std::ffi::{c_char, c_void};
 use std::mem::size_of;
 
 /// A handle of a lock manager, or of none.
@@ -210,4 +210,5 @@ extern "C" {
         text: *mut Text,
     ) -> u32;
     pub fn vlm_print_lock(lock: *const Lock, text: *mut Text) -> u32;
+    pub fn vlm_condition_name(status: u32) -> *const c_char;
 }

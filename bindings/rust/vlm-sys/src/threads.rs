@@ -15,7 +15,7 @@ pub struct Layer {
 /// How many bytes a label has.
 pub const LABEL: usize = 32;
 /// How many waits of a cycle a hook is told of.
-pub const CIRCLE: usize = 16;
+pub const CYCLE: usize = 16;
 /// How many entries the counters by condition and by time have.
 pub const COUNTS: usize = 32;
 /// The answer of a wait that has lasted as long as it may.
@@ -36,7 +36,7 @@ structs! {
         name: [u8; 32] = [0; 32], waits_label: [u8; LABEL] = [0; LABEL], blocks_label: [u8; LABEL] = [0; LABEL],
     }
     Deadlock 3792 {
-        victim: u32 = 0, pid: u32 = 0, length: u32 = 0, waits: [Wait; CIRCLE] = [NO_WAIT; CIRCLE],
+        victim: u32 = 0, pid: u32 = 0, length: u32 = 0, waits: [Wait; CYCLE] = [NO_WAIT; CYCLE],
     }
     Options 72 {
         delivery: u32 = 0, search_milliseconds: u32 = 0, has_keys: u32 = 0, keys: [u8; 16] = [0; 16],
