@@ -185,8 +185,8 @@ def uses_python(root):
     """Python has the package, and vlm-draw makes a page."""
     block = docs.fenced(TOP / "docs" / "LIBRARY.md", "python")[0][0]
     root.write("first.py", block)
-    root.write("circle", (PLAY / "a-circle-of-three").read_text())
-    ended = root.run("python3 first.py && vlm-draw circle", "user")
+    root.write("cycle", (PLAY / "a-circle-of-three").read_text())
+    ended = root.run("python3 first.py && vlm-draw cycle", "user")
     if ended.returncode or not ended.stdout.lower().startswith("<!doctype html"):
         yield f"{ended.returncode}: {ended.stdout[-300:]}"
 
@@ -309,9 +309,9 @@ def has_wheel(root):
     """The wheel has the library in it, so a new environment needs nothing else."""
     block = docs.fenced(TOP / "docs" / "LIBRARY.md", "python")[0][0]
     root.write("first.py", block)
-    root.write("circle", (PLAY / "a-circle-of-three").read_text())
+    root.write("cycle", (PLAY / "a-circle-of-three").read_text())
     ended = root.run("python3 -m venv venv && venv/bin/pip install --quiet --no-index /packages/*.whl && "
-                     "venv/bin/python first.py && venv/bin/vlm-draw circle", "user")
+                     "venv/bin/python first.py && venv/bin/vlm-draw cycle", "user")
     if ended.returncode or not ended.stdout.lower().startswith("<!doctype html"):
         yield f"{ended.returncode}: {ended.stdout[-300:]}"
 

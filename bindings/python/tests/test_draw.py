@@ -431,32 +431,32 @@ class Graphs(unittest.TestCase):
     def test_nobody_waits(self):
         self.assertEqual(self.arrows(drawn(TWO, "--dot")[1]), set())
 
-    @unittest.skipUnless(shutil.which("dot"), "Graphviz is not installed")
+    @unittest.skipUnless(shutil.which("dot"), "there is no Graphviz")
     def test_graphviz_reads_it(self):
         for script in (DEADLOCK, TWO):
             ended = subprocess.run(["dot", "-Tsvg"], input=drawn(script, "--dot")[1].encode(), capture_output=True)
             self.assertEqual((ended.returncode, ended.stderr), (0, b""))
             ET.fromstring(ended.stdout)
 
-    def test_a_search_finds_a_circle(self):
+    def test_a_search_finds_a_cycle(self):
         """The request of Q's lock 4 is the most recent one. It waits for P's lock 1, and P's lock 3 for Q's lock 2."""
         line = data_of(DEADLOCK + b"search node=1")["lines"][-1]
         self.assertEqual(line["printed"], "search: victim 4\n")
         text = ("A circle: Q waits for P on A (lock 4 wants EX, lock 1 holds EX), "
                 'P waits for Q on "B\\ (lock 3 wants EX, lock 2 holds EX). The victim is lock 4 of Q.')
-        self.assertEqual(line["circle"], {"victim": 4, "waits": [[4, 1], [3, 2]], "text": text})
+        self.assertEqual(line["cycle"], {"victim": 4, "waits": [[4, 1], [3, 2]], "text": text})
 
-    def test_a_circle_that_is_too_long_to_be_found(self):
+    def test_a_cycle_that_is_too_long_to_be_found(self):
         """Q's request, the last one, waits for 1,000 locks of X before it waits for P's, and P waits for Q."""
         many = b"declare X node=3 group=1 quota=1000 blocks=1\n" + 1_000 * b"enq X CR name=A block=1\n"
         held = b"enq P CR name=A block=1\nenq Q EX name=B block=1\n"
         script = TWO + many + held + b"enq P EX name=B block=2\nenq Q EX name=A block=2\nsearch node=1"
         text = "The circle is too long to be shown. The victim is lock 1004 of Q."
-        self.assertEqual(data_of(script)["lines"][-1]["circle"], {"victim": 1_004, "waits": [], "text": text})
+        self.assertEqual(data_of(script)["lines"][-1]["cycle"], {"victim": 1_004, "waits": [], "text": text})
 
     def test_a_process_in_its_own_way(self):
         line = data_of(TWO + b"enq P EX name=A block=1\nenq P EX name=A block=2\nsearch node=1")["lines"][-1]
-        self.assertEqual((line["circle"]["victim"], line["circle"]["waits"]), (2, [[2, 1]]))
+        self.assertEqual((line["cycle"]["victim"], line["cycle"]["waits"]), (2, [[2, 1]]))
 
     def test_each_line_of_worked_scripts_has_a_picture(self):
         for name in ("conversion-deadlock", "blocked-by-oneself", "sublocks", "departure"):
@@ -471,9 +471,9 @@ class Graphs(unittest.TestCase):
         self.assertEqual(boxes, {("granted", "EX P, lock 1"), ("granted", "EX Q, lock 2"), ("waiting", "EX P, lock 3"),
                                  ("waiting changed", "EX Q, lock 4 \u25cf")})
 
-    def test_a_picture_marks_circle_and_victim(self):
+    def test_a_picture_marks_cycle_and_victim(self):
         classes = [it.get("class") for it in ET.fromstring(svg(DEADLOCK + b"search node=1", 7)).iter()]
-        self.assertEqual((classes.count("wait circle"), classes.count("process victim")), (2, 1))
+        self.assertEqual((classes.count("wait cycle"), classes.count("process victim")), (2, 1))
 
 
 def svg_boxes(text):

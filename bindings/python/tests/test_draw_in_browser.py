@@ -94,8 +94,7 @@ class Browser:
         return self.tell("/se/log", type="browser")
 
 
-@unittest.skipUnless(shutil.which("chromedriver") and shutil.which("chromium"),
-                     "Chromium and its driver are not installed: chromium, chromium-driver")
+@unittest.skipUnless(shutil.which("chromedriver") and shutil.which("chromium"), "there is no browser")
 class InBrowser(unittest.TestCase):
     @classmethod
     def setUpClass(cls):
@@ -169,7 +168,7 @@ class InBrowser(unittest.TestCase):
         self.assertIn("Q waits for P on A (lock 2 holds PR and wants EX, lock 1 holds PR and wants EX), P waits", text)
         waits = "return [...document.querySelectorAll('#search [data-wait]')].map((it) => it.dataset.wait).sort()"
         self.assertEqual(self.browser.run(waits), ["131073 65537", "65537 131073"])
-        self.assertEqual(self.browser.run("return document.querySelectorAll('#search .wait.circle').length"), 2)
+        self.assertEqual(self.browser.run("return document.querySelectorAll('#search .wait.cycle').length"), 2)
         self.assertEqual(self.text("#search .victim.process + text"), "Q")
 
     def test_many_waits_are_a_table(self):

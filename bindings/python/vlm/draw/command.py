@@ -131,7 +131,7 @@ def svg(script: bytes, number: int) -> str:
             record = next(records)
         except ScriptFault as fault:
             raise Stopped(FAULT, str(fault)) from None
-        graph = before.searched(record.circle) if before and record.circle else _graph(recorder)
+        graph = before.searched(record.cycle) if before and record.cycle else _graph(recorder)
         return picture(record, recorder.state, graph)
 
 

@@ -8,7 +8,7 @@ from xml.sax.saxutils import escape
 from ..manager import LockManager
 from ..script import name_text
 from .state import State
-from .waits import Circle, Wait, all_waits, waits_in_circles
+from .waits import Cycle, Wait, all_waits, waits_in_cycles
 
 Point = Tuple[float, float]
 
@@ -22,8 +22,8 @@ class Arrow:
     waits: List[Wait] = field(default_factory=list)
     # The resources on which it waits.
     resources: List[str] = field(default_factory=list)
-    # Whether it is part of a circle of processes.
-    in_circle: bool = False
+    # Whether it is part of a cycle of processes.
+    in_cycle: bool = False
 
 
 @dataclass(frozen=True)
@@ -35,17 +35,17 @@ class Graph:
     # The process of a search's victim.
     victim: Optional[int] = None
 
-    def searched(self, circle: Circle) -> "Graph":
-        """The graph with what a search found in it: this circle alone is marked, and the victim."""
-        arrows = [replace(it, in_circle=not set(circle.waits).isdisjoint(it.waits)) for it in self.arrows]
-        victims = [it.source for it in self.arrows if any(lock == circle.victim for lock, _ in it.waits)]
+    def searched(self, cycle: Cycle) -> "Graph":
+        """The graph with what a search found in it: this cycle alone is marked, and the victim."""
+        arrows = [replace(it, in_cycle=not set(cycle.waits).isdisjoint(it.waits)) for it in self.arrows]
+        victims = [it.source for it in self.arrows if any(lock == cycle.victim for lock, _ in it.waits)]
         return Graph(self.names, arrows, victims[0])
 
 
 def graph_of(manager: LockManager, state: State) -> Graph:
-    """The graph of a state, with all circles marked."""
+    """The graph of a state, with all cycles marked."""
     waits = all_waits(manager, state)
-    in_circles = waits_in_circles(state, waits)
+    in_cycles = waits_in_cycles(state, waits)
     arrows: Dict[Tuple[int, int], Arrow] = {}
     for lock, blocker in waits:
         ends = state.locks[lock].pid, state.locks[blocker].pid
@@ -54,17 +54,17 @@ def graph_of(manager: LockManager, state: State) -> Graph:
         name = name_text(state.resources[state.locks[lock].resource].name)
         if name not in arrow.resources:
             arrow.resources.append(name)
-        arrow.in_circle = arrow.in_circle or (lock, blocker) in in_circles
+        arrow.in_cycle = arrow.in_cycle or (lock, blocker) in in_cycles
     names = {pid: state.processes[pid].name for pid in sorted({pid for ends in arrows for pid in ends})}
     return Graph(names, list(arrows.values()))
 
 
 def dot(graph: Graph) -> str:
-    """The graph in the language of Graphviz. Arrows in a circle are red and thick."""
+    """The graph in the language of Graphviz. Arrows in a cycle are red and thick."""
     lines = ["digraph waits {", "  node [shape=box, style=rounded];"]
     lines += [f"  p{pid} [label={_quoted(name)}];" for pid, name in graph.names.items()]
     for arrow in graph.arrows:
-        mark = ", color=red, penwidth=3" if arrow.in_circle else ""
+        mark = ", color=red, penwidth=3" if arrow.in_cycle else ""
         lines.append(f"  p{arrow.source} -> p{arrow.target} [label={_quoted(', '.join(arrow.resources))}{mark}];")
     return "\n".join([*lines, "}"]) + "\n"
 
@@ -118,10 +118,10 @@ def _curve(arrow: Arrow, places: Dict[int, Point], names: Dict[int, str]) -> Tup
 
 def _arrow(arrow: Arrow, places: Dict[int, Point], names: Dict[int, str]) -> str:
     (ax, ay), (bx, by), (cx, cy) = _curve(arrow, places, names)
-    length, size = hypot(cx - bx, cy - by) or 1.0, 15 if arrow.in_circle else 11
+    length, size = hypot(cx - bx, cy - by) or 1.0, 15 if arrow.in_cycle else 11
     dx, dy = (cx - bx) / length, (cy - by) / length
     tx, ty, half = cx - dx * size, cy - dy * size, size / 2.4
-    mark = " circle" if arrow.in_circle else ""
+    mark = " cycle" if arrow.in_cycle else ""
     return (f'<path class="wait{mark}" d="M{ax:.1f} {ay:.1f}Q{bx:.1f} {by:.1f} {tx:.1f} {ty:.1f}"/>'
             f'<path class="head{mark}" d="M{cx:.1f} {cy:.1f}L{tx - dy * half:.1f} {ty + dx * half:.1f}'
             f'L{tx + dy * half:.1f} {ty - dx * half:.1f}Z"/>')

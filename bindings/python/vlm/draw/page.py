@@ -32,9 +32,9 @@ def _line(record: Record) -> Dict[str, Any]:
     if not record.is_run:
         return {"text": record.text, "idle": True}
     line: Dict[str, Any] = {"text": record.text, "printed": record.printed, "changes": record.changes}
-    if record.circle:
-        circle = record.circle
-        line["circle"] = {"victim": circle.victim, "waits": circle.waits, "text": circle.text}
+    if record.cycle:
+        cycle = record.cycle
+        line["cycle"] = {"victim": cycle.victim, "waits": cycle.waits, "text": cycle.text}
     return line
 
 

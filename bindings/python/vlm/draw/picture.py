@@ -29,8 +29,8 @@ text { font: 13px ui-monospace, Menlo, Consolas, "DejaVu Sans Mono", monospace; 
 .victim { stroke: #b3261e; stroke-width: 4; stroke-dasharray: 7 3; }
 .wait { fill: none; stroke: #565d6b; stroke-width: 1.6; }
 .head { fill: #565d6b; }
-.wait.circle { stroke: #b3261e; stroke-width: 4; }
-.head.circle { fill: #b3261e; }
+.wait.cycle { stroke: #b3261e; stroke-width: 4; }
+.head.cycle { fill: #b3261e; }
 """
 
 

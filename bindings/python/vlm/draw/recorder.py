@@ -9,7 +9,7 @@ from ..script import (Line, LineFault, Ran, ScriptFault, Search, Session, Show, 
                       show_lines, tails_lines)
 from .state import Change, State
 from .tracer import Tracer
-from .waits import Circle, circle_of
+from .waits import Cycle, cycle_of
 
 # The most lines of what `show` and `tails` print that a record has.
 MOST_PRINTED = 40
@@ -27,7 +27,7 @@ class Record:
     printed: str = ""
     changes: Tuple[Change, ...] = ()
     # What a search found.
-    circle: Optional[Circle] = None
+    cycle: Optional[Cycle] = None
 
 
 class Recorder:
@@ -72,16 +72,16 @@ class Recorder:
         if read is None:
             return Record(number, text, False)
         pid = self._session.names.pid_of(read)
-        circle = self._circle(read.does) if isinstance(read.does, Search) else None
+        cycle = self._cycle(read.does) if isinstance(read.does, Search) else None
         ran = self._run(read)
         if ran.outcome is not None and not ran.outcome.is_refusal:
             self._tracer.note(read, pid, ran.outcome)
-        return Record(number, text, True, ran.text, tuple(self.state.taken()), circle)
+        return Record(number, text, True, ran.text, tuple(self.state.taken()), cycle)
 
-    def _circle(self, step: Search) -> Optional[Circle]:
+    def _cycle(self, step: Search) -> Optional[Cycle]:
         """What a search will find."""
         victim = self._tracer.search(step)
-        return circle_of(self.manager, self.state, victim) if victim else None
+        return cycle_of(self.manager, self.state, victim) if victim else None
 
     def _run(self, line: Line) -> Ran:
         """Runs a line. What `show` and `tails` print is cut after some lines."""

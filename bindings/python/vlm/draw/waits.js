@@ -2,7 +2,7 @@
 
 const MOST_ROWS = 100;
 const ARROWS = "An arrow leads from a process that waits to the process for which it waits.";
-const SEARCHED = "The waits before the search. The circle is drawn thick; the victim's process has a dashed border.";
+const SEARCHED = "The waits before the search. The cycle is drawn thick; the victim's process has a dashed border.";
 
 // What is needed to show the waits of the present state: plain words, so it stays right in another state.
 function waitModel(found) {
@@ -22,20 +22,20 @@ function arrowsOf(model) {
   for (const request of model.queued) {
     for (const other of request.others) {
       const key = `${request.pid} ${other.pid}`;
-      if (!arrows.has(key)) arrows.set(key, {from: request.pid, to: other.pid, resources: new Set(), isCircle: false});
+      if (!arrows.has(key)) arrows.set(key, {from: request.pid, to: other.pid, resources: new Set(), isCycle: false});
       arrows.get(key).resources.add(request.resource);
-      if (other.isFound) arrows.get(key).isCircle = true;
+      if (other.isFound) arrows.get(key).isCycle = true;
     }
   }
-  if (!model.victim) markCircles([...arrows.values()]);
+  if (!model.victim) markCycles([...arrows.values()]);
   return [...arrows.values()];
 }
 
-// Marks each arrow that is part of a circle: its end leads back to its beginning.
-function markCircles(arrows) {
+// Marks each arrow that is part of a cycle: its end leads back to its beginning.
+function markCycles(arrows) {
   const next = new Map();
   for (const {from, to} of arrows) next.set(from, [...(next.get(from) || []), to]);
-  for (const arrow of arrows) arrow.isCircle = leadsTo(next, arrow.to, arrow.from);
+  for (const arrow of arrows) arrow.isCycle = leadsTo(next, arrow.to, arrow.from);
 }
 
 function leadsTo(next, from, wanted) {
@@ -71,17 +71,17 @@ function othersText(others) {
   return others.map((it) => `${it.name} (lock ${it.lock})`).join(", ") || "nobody";
 }
 
-// A search that found a victim: the waits before it, with the circle.
+// A search that found a victim: the waits before it, with the cycle.
 function renderSearch(line) {
   const section = byId("search");
-  section.hidden = !line.circle;
+  section.hidden = !line.cycle;
   section.replaceChildren(element("h2", {}, "What the search found"));
-  if (!line.circle) return;
+  if (!line.cycle) return;
   const number = state.at;
   goTo(number - 1);
-  const model = waitModel(line.circle);
+  const model = waitModel(line.cycle);
   goTo(number);
-  const {text} = line.circle, end = text.lastIndexOf("The victim is ");
+  const {text} = line.cycle, end = text.lastIndexOf("The victim is ");
   section.append(element("p", {}, text.slice(0, end), element("span", {class: "victim"}, text.slice(end))));
   if (model.isWhole) section.append(graphFigure(model, SEARCHED));
 }
@@ -100,7 +100,7 @@ function graphFigure(model, caption) {
   const victim = model.queued.filter((it) => it.isVictim).map((it) => it.pid)[0];
   const places = placesOf(pids, names);
   const label = arrows.map((it) =>
-    `${names.get(it.from)} waits for ${names.get(it.to)}${it.isCircle ? ", in a circle" : ""}`).join("; ");
+    `${names.get(it.from)} waits for ${names.get(it.to)}${it.isCycle ? ", in a cycle" : ""}`).join("; ");
   const svg = drawn("svg", {class: "graph", role: "img", "aria-label": label, ...frameOf([...places.values()], arrows)},
     ...arrows.map((it) => arrowLine(it, places)),
     ...pids.map((pid) => processNode(names.get(pid), places.get(pid), pid === victim)),
@@ -155,13 +155,13 @@ function edgeOf(box, from) {
 function arrowLine(arrow, places) {
   const {start, bend, end} = curveOf(arrow, places);
   const length = Math.hypot(end.x - bend.x, end.y - bend.y) || 1;
-  const size = arrow.isCircle ? 15 : 11, dx = (end.x - bend.x) / length, dy = (end.y - bend.y) / length;
+  const size = arrow.isCycle ? 15 : 11, dx = (end.x - bend.x) / length, dy = (end.y - bend.y) / length;
   const tail = {x: end.x - dx * size, y: end.y - dy * size}, half = size / 2.4;
   const line = `M${start.x} ${start.y}Q${bend.x} ${bend.y} ${tail.x} ${tail.y}`;
   const head = [end.x, end.y, tail.x - dy * half, tail.y + dx * half, tail.x + dy * half, tail.y - dx * half];
   return drawn("g", {"data-wait": `${arrow.from} ${arrow.to}`},
-    drawn("path", {class: classes("wait", arrow.isCircle && "circle"), d: line}),
-    drawn("polygon", {class: classes("head", arrow.isCircle && "circle"), points: head.join(" ")}));
+    drawn("path", {class: classes("wait", arrow.isCycle && "cycle"), d: line}),
+    drawn("polygon", {class: classes("head", arrow.isCycle && "cycle"), points: head.join(" ")}));
 }
 
 function arrowLabel(arrow, places) {

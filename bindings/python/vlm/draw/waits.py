@@ -15,7 +15,7 @@ from .state import State
 
 # With more queued requests or more waits than this, a graph can't be read. Then the waits are not followed.
 MOST_REQUESTS, MOST_WAITS = 60, 80
-# The most blockers that are read to find a circle.
+# The most blockers that are read to find a cycle.
 MOST_READ = 1_000
 
 # A request that waits for a lock: the lock of the request, and the other one.
@@ -23,9 +23,9 @@ Wait = Tuple[int, int]
 
 
 @dataclass(frozen=True)
-class Circle:
-    """What a search found: the lock of its victim, and the waits of a circle, from the victim on. There are none if
-    the circle is too long to be found."""
+class Cycle:
+    """What a search found: the lock of its victim, and the waits of a cycle, from the victim on. There are none if
+    the cycle is too long to be found."""
 
     victim: int
     waits: Tuple[Wait, ...]
@@ -67,8 +67,8 @@ def follow_waits(manager: LockManager, state: State, locks: Set[int]) -> None:
     state.set_few_waits()
 
 
-def circle_of(manager: LockManager, state: State, victim: int) -> Circle:
-    """A shortest circle of processes that each wait for the next, by the victim's request first."""
+def cycle_of(manager: LockManager, state: State, victim: int) -> Cycle:
+    """A shortest cycle of processes that each wait for the next, by the victim's request first."""
     home = state.locks[victim].pid
     # The wait by which each process was reached, and the requests whose waits are still to be read.
     reached: Dict[int, Wait] = {}
@@ -83,7 +83,7 @@ def circle_of(manager: LockManager, state: State, victim: int) -> Circle:
                 reached[pid] = lock, blocker
                 requests += _requests_of(state, pid)
     waits = _way_home(state, reached, victim) if home in reached else []
-    return Circle(victim, tuple(waits), _sentence(manager, state, victim, waits))
+    return Cycle(victim, tuple(waits), _sentence(manager, state, victim, waits))
 
 
 def _sentence(manager: LockManager, state: State, victim: int, waits: List[Wait]) -> str:
@@ -129,8 +129,8 @@ def all_waits(manager: LockManager, state: State) -> List[Wait]:
     return [(lock, blocker) for lock in sorted(state.queued) for blocker in blockers_of(manager, lock)]
 
 
-def waits_in_circles(state: State, waits: List[Wait]) -> Set[Wait]:
-    """The waits that are part of a circle of processes: from the other lock's process waits lead back to the waiter."""
+def waits_in_cycles(state: State, waits: List[Wait]) -> Set[Wait]:
+    """The waits that are part of a cycle of processes: from the other lock's process waits lead back to the waiter."""
     following: Dict[int, Set[int]] = {}
     for lock, blocker in waits:
         following.setdefault(state.locks[lock].pid, set()).add(state.locks[blocker].pid)
