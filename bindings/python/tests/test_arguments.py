@@ -64,6 +64,16 @@ def chosen(sense):
     return random.choice(sense if random.random() < 0.9 else ANY)
 
 
+def answered(call, given, named):
+    """Makes a call with some of its named arguments. Its name, if it is not refused."""
+    by_name = {name: chosen(sense) for name, sense in named.items() if random.random() < 0.3}
+    try:
+        call(*map(chosen, given), **by_name)
+        return {call.__name__}
+    except REFUSALS:
+        return set()
+
+
 class Arguments(unittest.TestCase):
     def test_any_argument_is_answered(self):
         random.seed(60)
@@ -72,13 +82,7 @@ class Arguments(unittest.TestCase):
             with LockManager() as manager:
                 processes = [manager.declare(node, quota=20, blocks=3) for node in (1, 1, 2)]
                 for _ in range(CALLS):
-                    call, given, named = random.choice(calls_of(manager, random.choice(processes)))
-                    by_name = {name: chosen(sense) for name, sense in named.items() if random.random() < 0.3}
-                    try:
-                        call(*map(chosen, given), **by_name)
-                        made.add(call.__name__)
-                    except REFUSALS:
-                        pass
+                    made |= answered(*random.choice(calls_of(manager, random.choice(processes))))
                 self.shows_all(manager)
         self.assertEqual(len(made), 21)
 
@@ -92,13 +96,7 @@ class Arguments(unittest.TestCase):
             with Shared() as shared:
                 clients = [shared.declare(node, quota=20, requests=3) for node in (1, 1, 2)]
                 for _ in range(CALLS):
-                    call, given, named = random.choice(calls_of_threads(shared, random.choice(clients)))
-                    by_name = {name: chosen(sense) for name, sense in named.items() if random.random() < 0.3}
-                    try:
-                        call(*map(chosen, given), **by_name)
-                        made.add(call.__name__)
-                    except REFUSALS:
-                        pass
+                    made |= answered(*random.choice(calls_of_threads(shared, random.choice(clients))))
         self.assertEqual(len(made), 13)
 
     def shows_all(self, manager):

@@ -19,6 +19,8 @@ from unittest import mock
 from vlm import (BadParamError, Condition, DeadlockError, DequeueFlags, Flags, IvLockIdError, LostError, Mode,
                  NonExprError, NotQueuedError, SubLocksError, TimedOutError, _client, connect)
 
+from forks import status_of_child
+
 VLMD = os.environ.get("VLMD") or os.path.join(os.environ.get("VLM_PREFIX", ""), "bin", "vlmd")
 SECONDS = 30
 
@@ -390,23 +392,12 @@ class Connections(unittest.TestCase):
     def test_a_child_closes_nothing(self):
         p, q = self.pair()
         with p.lock("A", Mode.EX):
-            child = os.fork()
-            if not child:
-                p.connection.close()
-                os._exit(0)
-            self.assertEqual(os.waitpid(child, 0)[1], 0)
+            self.assertEqual(status_of_child(p.connection.close), 0)
             self.assertRaises(NotQueuedError, q.lock, "A", Mode.EX, flags=Flags.NOQUEUE)
 
     def test_a_closed_connection_and_a_child_are_refused(self):
         p = self.connection().declare()
-        child = os.fork()
-        if not child:
-            try:
-                p.lock("A", Mode.EX)
-            except BadParamError:
-                os._exit(0)
-            os._exit(1)
-        self.assertEqual(os.waitpid(child, 0)[1], 0)
+        self.assertEqual(status_of_child(self.assertRaises, BadParamError, p.lock, "A", Mode.EX), 0)
         p.connection.close()
         p.connection.close()
         self.assertRaises(LostError, p.lock, "A", Mode.EX)

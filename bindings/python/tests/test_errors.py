@@ -9,6 +9,8 @@ from pathlib import Path
 
 import vlm
 from vlm import Condition, DequeueFlags, Flags, InBlock, LockManager, Mode, VlmError
+from vlm._library import FULL, LIBRARY, LOST, TIMEOUT
+from vlm.errors import error_of
 
 # Fills the lock manager until memory is refused. The program itself needs little more.
 FILLS = """
@@ -104,6 +106,15 @@ class Errors(unittest.TestCase):
             self.assertIs(getattr(vlm, error.__name__), error)
             self.assertIn(condition.name, str(error()))
             self.assertIs(type(pickle.loads(pickle.dumps(error()))), error)
+
+    def test_the_library_names_each_condition_as_its_number_says(self):
+        named = {number: LIBRARY.vlm_condition_name(number) for number in range(1000)}
+        ours = {it.value: it.name for it in Condition} | {TIMEOUT: "TIMEOUT", LOST: "LOST", FULL: "FULL"}
+        self.assertEqual({number: name.decode().removeprefix("SS$_") for number, name in named.items() if name}, ours)
+        self.assertEqual(Condition.DEADLOCK.manual_name, "SS$_DEADLOCK")
+        self.assertEqual(Condition.DEPARTED.manual_name, "DEPARTED")
+        for number, error in ((TIMEOUT, vlm.TimedOutError), (LOST, vlm.LostError), (FULL, vlm.FullError)):
+            self.assertIs(type(error_of(number)), error)
 
     def test_a_program_names_its_own(self):
         class Busy(vlm.NotQueuedError):

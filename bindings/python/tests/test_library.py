@@ -12,15 +12,20 @@ import vlm
 from vlm._library import LIBRARY
 
 FOLDER = Path(__file__).resolve().parents[1]
+NOWHERE = "/nowhere/libvlm.so.0.2"
+
+
+def ended(program, folder="/", **variables):
+    """A program that ran in a folder with the package and these variables."""
+    env = {name: value for name, value in os.environ.items() if name not in ("VLM_LIBRARY", "VLM_PREFIX")}
+    return subprocess.run([sys.executable, "-c", program], capture_output=True, text=True, timeout=60, cwd=folder,
+                          env={**env, "PYTHONPATH": str(FOLDER), **variables})
 
 
 def imported(folder="/", **variables):
-    """What a program in a folder says that imports the package with these variables."""
-    env = {name: value for name, value in os.environ.items() if name not in ("VLM_LIBRARY", "VLM_PREFIX")}
-    ended = subprocess.run([sys.executable, "-c", "import vlm; vlm.LockManager().close(); print('imported')"],
-                           capture_output=True, text=True, timeout=60, cwd=folder,
-                           env={**env, "PYTHONPATH": str(FOLDER), **variables})
-    return ended.stdout or ended.stderr.splitlines()[-1]
+    """What a program says that makes a call of the library."""
+    made = ended("import vlm; vlm.LockManager().close(); print('imported')", folder, **variables)
+    return made.stdout or made.stderr.splitlines()[-1]
 
 
 class Library(unittest.TestCase):
@@ -59,20 +64,34 @@ class Library(unittest.TestCase):
         self.assertEqual(imported(LD_LIBRARY_PATH=str(self.lib), VLM_PREFIX="/nowhere"), "imported\n")
 
     def test_a_program_that_makes_no_call_needs_no_library(self):
-        program = "import vlm.script, vlm.draw.command; print(vlm.script.lines_of(b'show'))"
-        ended = subprocess.run([sys.executable, "-c", program], capture_output=True, text=True, timeout=60, cwd="/",
-                               env={**os.environ, "PYTHONPATH": str(FOLDER), "VLM_LIBRARY": "/nowhere/libvlm.so"})
-        self.assertEqual((ended.stdout, ended.stderr), ("[b'show']\n", ""))
+        made = ended("import vlm.script, vlm.draw.command; print(vlm.script.lines_of(b'show'))", VLM_LIBRARY=NOWHERE)
+        self.assertEqual((made.stdout, made.stderr), ("[b'show']\n", ""))
 
     def test_it_is_not_there(self):
-        text = imported(VLM_LIBRARY="/nowhere/libvlm.so.0.2")
-        self.assertIn("ImportError: the library /nowhere/libvlm.so.0.2 of the lock manager can't be used: ", text)
-        self.assertIn("./vlm install PREFIX", text)
+        for call in ("LockManager()", "Shared()", "Hub(1)", "connect('/nowhere')", "Condition.ABORT.manual_name"):
+            with self.subTest(call):
+                error = ended(f"import vlm\nvlm.{call}", VLM_LIBRARY=NOWHERE).stderr
+                self.assertEqual(error.count("Traceback"), 1)
+                self.assertRegex(error, rf"\nImportError: the library {NOWHERE} of the lock manager can't be used: "
+                                        r".* ./vlm install PREFIX.*\n\Z")
+
+    def test_the_command_says_so_too(self):
+        program = "import runpy, sys; sys.argv[1:] = ['/dev/null']; runpy.run_module('vlm.draw')"
+        made = ended(program, VLM_LIBRARY=NOWHERE)
+        self.assertRegex(made.stderr, rf"\Athe library {NOWHERE} of the lock manager can't be used: .*\n\Z")
 
     def test_it_is_another_library(self):
         (self.lib / "libvlm.so.0.2").write_text("no library")
         self.assertIn("ImportError: the library ", imported(VLM_PREFIX=self.room.name))
-        self.assertIn("vlm_open", imported(VLM_LIBRARY="libc.so.6"))
+        self.assertIn("vlm_version", imported(VLM_LIBRARY="libc.so.6"))
+
+    def test_it_has_another_version(self):
+        program = "import vlm; vlm._library.VERSION = {:#08x}; vlm.Shared().close(); print('opened')"
+        for version, is_fit in ((0x200, True), (0x2ff, True), (0x100, False), (0x300, False), (0x10200, False)):
+            with self.subTest(version):
+                made = ended(program.format(version), VLM_LIBRARY=str(self.file))
+                wanted = r"\Aopened\n\Z" if is_fit else r"ImportError: the library .* it is of version 0\.2, and "
+                self.assertRegex(made.stdout + made.stderr, wanted)
 
 
 if __name__ == "__main__":

@@ -1,16 +1,16 @@
 """Plays scripts by vlm.script: the worked ones print what the program prints, and faulty ones end with their faults.
 docs/SCRIPT.md says what a line does."""
 
-import json
 import pickle
 import sys
 import unittest
 from pathlib import Path
 
 from vlm import Condition, DequeueFlags, Flags, InBlock, LockManager, Mode
+from vlm import _library as raw
 from vlm.script import (LONGEST_SCRIPT, Convert, Declare, Deq, Enq, Fault, Leave, Line, LineFault, Names, Outcome,
                         Rundown, ScriptFault, Search, Session, SetValue, Show, ShowBlock, ShowTail, ShowTails, Take,
-                        lines_of, make, makes_step, name_text, plain, play, printed, read_line, step_of)
+                        _line_words, lines_of, make, name_text, play, printed, read_line)
 
 TESTS = Path(__file__).resolve().parents[3] / "tests"
 SCRIPTS = TESTS / "scripts" / "play"
@@ -77,8 +77,19 @@ class Reading(unittest.TestCase):
             with self.subTest(text):
                 self.assertEqual(read_line(text), line)
 
+    def test_a_line_has_the_kind_of_the_library(self):
+        for text, line in EACH_LINE:
+            with self.subTest(text):
+                words = raw.Line()
+                raw.LIBRARY.vlm_read_line(text, len(text), words)
+                self.assertEqual(_line_words(line).kind, words.kind)
+
     def test_views_make_no_step(self):
-        views = {type(line.does) for _, line in EACH_LINE if not makes_step(line)}
+        with LockManager() as manager:
+            session = Session(manager)
+            session.run(DECLARED[:-1] % 4)
+            views = {type(line.does) for _, line in EACH_LINE
+                     if not isinstance(line.does, Declare) and session.run_read(line).outcome is None}
         self.assertEqual(views, {ShowBlock, ShowTail, Show, ShowTails})
 
     def test_a_fault_says_what_it_is(self):
@@ -145,12 +156,6 @@ class StatusBlockZero(unittest.TestCase):
 
 class Parts(unittest.TestCase):
     """What a program uses that makes the steps of others."""
-
-    def test_a_step_goes_through_json(self):
-        for text, line in EACH_LINE:
-            if makes_step(line):
-                with self.subTest(text):
-                    self.assertEqual(step_of(json.loads(json.dumps(plain(line.does)))), line.does)
 
     def test_a_name_is_bound_by_an_accepted_declaration(self):
         names, declare, end = Names(), read_line(b"declare P node=1 group=1 quota=1 blocks=1"), read_line(b"end P")

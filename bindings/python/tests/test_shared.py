@@ -18,6 +18,8 @@ from vlm import (AbortError, AstKind, BadParamError, CancelError, ClosedError, C
                  Event, Flags, Mode, NonExprError, NotQueuedError, Shared, _contexts)
 from vlm._library import LIBRARY
 
+from forks import status_of_child
+
 EMPTY = bytes(16)
 SECONDS = 30
 
@@ -279,24 +281,17 @@ class Threads(unittest.TestCase):
 
     def test_a_forked_child_frees_nothing(self):
         kept = [Shared()]
-        child = os.fork()
-        if not child:
+
+        def close():
             LIBRARY.vlm_threads_close = LIBRARY.vlm_threads_stop = lambda layer: os._exit(1)
             kept.pop().close()
-            os._exit(0)
-        self.assertEqual(os.waitpid(child, 0)[1], 0)
+
+        self.assertEqual(status_of_child(close), 0)
 
     def test_it_is_closed_in_a_forked_child(self):
         client = Shared().declare()
         with client.lock("A", Mode.EX):
-            child = os.fork()
-            if not child:
-                try:
-                    client.lock("B", Mode.EX)
-                except ClosedError:
-                    os._exit(0)
-                os._exit(1)
-        self.assertEqual(os.waitpid(child, 0)[1], 0)
+            self.assertEqual(status_of_child(self.assertRaises, ClosedError, client.lock, "B", Mode.EX), 0)
         client.lock("A", Mode.EX).release()
 
     def test_it_is_freed_by_its_own_routine(self):

@@ -6,8 +6,8 @@
             held.write(b"version 7")
 
 `Shared` is for threads and asyncio, `LockManager` has the calls of the library, `Hub` is for threads that never wait.
-docs/LIBRARY.md of the repository says what each call answers. The first call finds the shared library: the file that
-the environment variable VLM_LIBRARY names, else libvlm.so.0.2 in the folder lib of VLM_PREFIX, else the one of a wheel
+include/vlm.h of the repository says what each call answers. The first call finds the shared library: the file that the
+environment variable VLM_LIBRARY names, else libvlm.so.0.2 in the folder lib of VLM_PREFIX, else the one of a wheel
 that has it, else where the loader looks.
 """
 

@@ -9,7 +9,6 @@ from ._library import LIBRARY, ThreadsDeclaration, ThreadsDequeue, ThreadsReques
 # The call of a loss.
 LOSS = CFUNCTYPE(None, c_void_p)
 BY_PROGRAM = 1
-LOST = 101
 Declaration, Request, Dequeue = ThreadsDeclaration, ThreadsRequest, ThreadsDequeue
 
 Options = _struct("Options", 104, *_words("delivery"), ("socket", c_char_p), ("on_lost", LOSS),

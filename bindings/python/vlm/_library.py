@@ -71,8 +71,8 @@ Line = _struct("Line", 464, *_words("kind fault number name_len resource_len"), 
                ("dequeue", Dequeue), _reserved(2))
 Text = _struct("Text", 256, *_words("len"), ("bytes", c_uint8 * 248))
 Cut = _struct("Cut", 32, *_words("entry_size"), ("base", c_uint64), ("count", c_uint64), _reserved(2))
-# What a post answers that found no free place, and a wait that has lasted as long as it may.
-FULL, TIMEOUT = 256, 100
+# What waits, connections and posts answer beside the condition values.
+TIMEOUT, LOST, FULL = 100, 101, 256
 
 # The layer for threads: the functions that it calls, and its structs.
 # 64 bytes of a value block, and a label.
@@ -105,7 +105,7 @@ ThreadsCounters = _struct("ThreadsCounters", 672, *_words("reserved"),
                           *((it, c_uint64 * 32 if it in ("refused", "times") else c_uint64) for it in COUNTERS))
 
 _NUMBER = POINTER(c_uint32)
-# What each call takes after the handle. Each answers a condition value, except those in _ANSWERS.
+# What each call takes after the handle. Each call answers a condition value, except those in _ANSWERS.
 _CALLS: Dict[str, List[Any]] = {
     "vlm_open": [POINTER(Options)],
     "vlm_close": [],
@@ -175,6 +175,7 @@ _FREE_CALLS: Dict[str, List[Any]] = {
     "vlm_print_answer": [POINTER(Line), c_uint32, c_uint32, POINTER(Text)],
     "vlm_print_ast": [POINTER(Line), c_uint32, POINTER(Ast), POINTER(Text)],
     "vlm_print_lock": [POINTER(Lock), POINTER(Text)],
+    "vlm_condition_name": [c_uint32],
 }
 # The calls of the layer, which take it first, and those that print, which take a stream last.
 _LAYER_CALLS: Dict[str, List[Any]] = {
@@ -211,7 +212,7 @@ _FIRST = {"vlm_threads_open": POINTER(ThreadsOptions), "vlm_threads_print": POIN
           "vlm_threads_print_deadlock": POINTER(ThreadsDeadlock)}
 _ANSWERS = {"vlm_close": None, "vlm_process_count": c_size_t, "vlm_resource_count": c_size_t,
             "vlm_lock_count": c_size_t, "vlm_queued_count": c_size_t, "vlm_hub_nodes": c_size_t,
-            "vlm_hub_entries": c_size_t, "vlm_hub_close": None, "vlm_port_close": None}
+            "vlm_hub_entries": c_size_t, "vlm_hub_close": None, "vlm_port_close": None, "vlm_condition_name": c_char_p}
 
 
 def _place() -> str:
@@ -225,22 +226,23 @@ def _place() -> str:
 
 def _declared(library: ctypes.CDLL) -> ctypes.CDLL:
     """The library, with the types of its calls."""
-    for name, arguments in _CALLS.items():
+    typed = {**{name: [POINTER(Handle), *arguments] for name, arguments in _CALLS.items()},
+             **{name: [_FIRST.get(name, c_void_p), *arguments] for name, arguments in _LAYER_CALLS.items()},
+             **_FREE_CALLS}
+    for name, arguments in typed.items():
         call = getattr(library, name)
-        call.argtypes = [POINTER(Handle), *arguments]
-        call.restype = _ANSWERS.get(name, c_uint32)
-    for name, arguments in _LAYER_CALLS.items():
-        call = getattr(library, name)
-        call.argtypes, call.restype = [_FIRST.get(name, c_void_p), *arguments], c_uint32
-    for name, arguments in _FREE_CALLS.items():
-        getattr(library, name).argtypes = arguments
+        call.argtypes, call.restype = arguments, _ANSWERS.get(name, c_uint32)
     return library
 
 
 def _loaded() -> ctypes.CDLL:
     place = _place()
     try:
-        return _declared(ctypes.CDLL(place))
+        library = ctypes.CDLL(place)
+        version = library.vlm_version()
+        if version >> 8 != VERSION >> 8:
+            raise OSError(f"it is of version {version >> 16}.{version >> 8 & 255}, and the package of {FITS}")
+        return _declared(library)
     except (OSError, AttributeError) as failed:
         raise ImportError(
             f"the library {place} of the lock manager can't be used: {failed}. Install Debian's package libvlm{FITS}, "

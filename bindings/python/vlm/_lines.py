@@ -144,9 +144,11 @@ class ShowTails:
     """Prints the tail of every resource's value block (`tails`)."""
 
 
-Step = Union[Declare, Enq, Convert, Deq, SetValue, Rundown, Leave, Search, Take]
+Step = Union[Declare, SetValue, Enq, Convert, Deq, Rundown, Leave, Search, Take]
 View = Union[ShowBlock, ShowTail, Show, ShowTails]
-STEPS = (Declare, Enq, Convert, Deq, SetValue, Rundown, Leave, Search, Take)
+# The steps and views by the numbers of their lines, from 1.
+STEPS = (Declare, SetValue, Enq, Convert, Deq, Rundown, Leave, Search, Take)
+VIEWS = (ShowBlock, ShowTail, Show, ShowTails)
 
 
 @dataclass(frozen=True)

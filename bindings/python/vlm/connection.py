@@ -14,7 +14,7 @@ from typing import Any, Callable, Dict, Optional, Set, Type
 from . import _client as raw
 from ._arguments import flags_word, name_bytes, need_routines, part, seconds, word
 from ._asks import GRANTS, milliseconds
-from ._library import ROUTINE, address_of
+from ._library import LOST, ROUTINE, address_of
 from .errors import BadParamError, DepartedError, LostError, NonExprError, VlmError, checked
 from .held import HeldLock
 from .values import Condition, DequeueFlags, Flags, Mode, Name
@@ -62,12 +62,12 @@ class _Client:
         try:
             self._calls.add(this)
             if self.is_closed:
-                return raw.LOST
+                return LOST
             status: int = raw.call(name)(self._handle, *arguments)
         finally:
             self._end(this)
         # (a close ends one process after another, so the end of one may have granted this request)
-        return raw.LOST if self.is_closed and (status == Condition.NONEXPR or name in _ASKS) else status
+        return LOST if self.is_closed and (status == Condition.NONEXPR or name in _ASKS) else status
 
     def close(self) -> None:
         """Ends all calls that wait. The last call that is under way frees the client. A forked child frees nothing:
@@ -201,7 +201,7 @@ class Connection:
     def _run(self, context: int, event: Any) -> None:
         words = event.contents
         value = bytes(words.value)[:words.value_len] if words.value_len else None
-        is_lost = words.status == raw.LOST
+        is_lost = words.status == LOST
         status = Condition(words.status) if words.status and not is_lost else None
         routine = self._routines.get(context)
         # (another thread may have given its lock up, or run its process down)

@@ -2,6 +2,7 @@
 
 from typing import ClassVar, Dict, Optional, Type
 
+from . import _library as raw
 from .values import Condition
 
 
@@ -126,8 +127,7 @@ class DepartedError(VlmError, condition=Condition.DEPARTED):
 
 
 _SUCCESSES = {it.value: it for it in (Condition.NORMAL, Condition.SYNCH)}
-# What waits, connections and posts answer beside the condition values.
-_OTHERS = {100: TimedOutError, 101: LostError, 256: FullError}
+_OTHERS = {raw.TIMEOUT: TimedOutError, raw.LOST: LostError, raw.FULL: FullError}
 
 
 def error_of(status: int) -> Exception:

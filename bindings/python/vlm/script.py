@@ -6,26 +6,26 @@ language. The library's proved `vlm_read_line` reads a line, and its `vlm_print`
             print(text, end="")
 
 A `Session` runs line by line. Its parts can be used alone: `read_line` reads a line, `Names` binds its NAME to a
-process, and `make` makes its step for the process of an ID. `plain` turns a step into a dictionary that
-JSON can hold, and `step_of` turns it back. Managers that make the same steps in the same order give the same answers.
+process, and `make` makes its step for the process of an ID. Managers that make the same steps in the same order give
+the same answers.
 """
 
-from dataclasses import dataclass, fields
-from typing import Any, Callable, Dict, Iterator, List, Optional, Union
+from dataclasses import dataclass
+from typing import Any, Callable, Dict, Iterator, Optional
 
-from ._lines import (LONGEST_LINE, LONGEST_SCRIPT, STEPS, Convert, Declare, Deq, Enq, Fault, Leave, Line, LineFault,
-                     Rundown, Search, SetValue, Show, ShowBlock, ShowTail, ShowTails, Step, Take, View, lines_of,
-                     read_line)
+from ._lines import (LONGEST_LINE, LONGEST_SCRIPT, STEPS, VIEWS, Convert, Declare, Deq, Enq, Fault, Leave, Line,
+                     LineFault, Rundown, Search, SetValue, Show, ShowBlock, ShowTail, ShowTails, Step, Take, View,
+                     lines_of, read_line)
 from . import _library as raw
 from .errors import VlmError
 from .manager import LockManager
 from .process import Process
-from .values import Accepted, Ast, Condition, DequeueFlags, Flags, InBlock, Mode
+from .values import Accepted, Ast, Condition
 
 __all__ = ["LONGEST_LINE", "LONGEST_SCRIPT", "Convert", "Declare", "Deq", "Enq", "Fault", "Leave", "Line",
            "LineFault", "Names", "Outcome", "Ran", "Rundown", "ScriptFault", "Search", "Session", "SetValue", "Show",
-           "ShowBlock", "ShowTail", "ShowTails", "Step", "Take", "View", "ast_text", "lines_of", "make", "makes_step",
-           "name_text", "plain", "play", "printed", "read_line", "show_lines", "shown", "step_of", "tails_lines"]
+           "ShowBlock", "ShowTail", "ShowTails", "Step", "Take", "View", "ast_text", "lines_of", "make", "name_text",
+           "play", "printed", "read_line", "show_lines", "shown", "tails_lines"]
 
 
 @dataclass(frozen=True)
@@ -49,11 +49,6 @@ class Ran:
 
     text: str
     outcome: Optional[Outcome] = None
-
-
-def makes_step(line: Line) -> bool:
-    """Whether a line makes a step. Other lines only show what is there."""
-    return isinstance(line.does, STEPS)
 
 
 class Names:
@@ -187,8 +182,7 @@ _MAKERS: Dict[type, Callable[[Process, Any], Outcome]] = {
     Search: _search, Take: _take}
 
 
-# The kinds of lines, by their numbers from 1.
-_KINDS = {it: kind for kind, it in enumerate((*STEPS, ShowBlock, ShowTail), 1)}
+_KINDS = {it: kind for kind, it in enumerate((*STEPS, *VIEWS), 1)}
 
 
 def _line_words(line: Line) -> raw.Sized:
@@ -270,32 +264,3 @@ def _of_resources(manager: LockManager, lines: Callable[[raw.Sized], Iterator[st
         yield from lines(resource)
     if not is_there:
         yield "no resources\n"
-
-
-def plain(step: Step) -> Dict[str, Any]:
-    """A step as a dictionary that JSON can hold: bytes are hexadecimal digits, and the lock `@N` is the list [N]."""
-    return {"step": type(step).__name__, **{it.name: _plain(getattr(step, it.name)) for it in fields(step)}}
-
-
-def _plain(value: Any) -> Any:
-    if isinstance(value, bytes):
-        return value.hex()
-    if isinstance(value, InBlock):
-        return [value.block]
-    return int(value) if isinstance(value, int) and not isinstance(value, bool) else value
-
-
-def step_of(given: Dict[str, Any]) -> Step:
-    """The step of a dictionary that `plain` made."""
-    named: Dict[str, Callable[..., Step]] = {it.__name__: it for it in STEPS}
-    does = named[given["step"]]
-    kinds: Dict[str, Callable[[Any], Any]] = {
-        "mode": Mode, "flags": DequeueFlags if does is Deq else Flags, "parent": _lock_of, "lock": _lock_of,
-        "name": bytes.fromhex, "value": bytes.fromhex, "tail": bytes.fromhex}
-    values = {key: value if value is None else kinds.get(key, lambda it: it)(value)
-              for key, value in given.items() if key != "step"}
-    return does(**values)
-
-
-def _lock_of(given: Union[int, List[int]]) -> Union[int, InBlock]:
-    return InBlock(given[0]) if isinstance(given, list) else given

@@ -4,6 +4,8 @@ from dataclasses import dataclass
 from enum import IntEnum, IntFlag
 from typing import Optional, Union
 
+from . import _library as raw
+
 
 class Condition(IntEnum):
     """A condition value: an answer, or the status in a status block."""
@@ -32,6 +34,11 @@ class Condition(IntEnum):
     NONEXPR = 22
     DEPARTED = 23
     WIDENOTVALID = 24
+
+    @property
+    def manual_name(self) -> str:
+        """Its name in the manual, such as SS$_DEADLOCK, or the plain one of this project's own."""
+        return str(raw.LIBRARY.vlm_condition_name(self).decode())
 
 
 class Mode(IntEnum):
