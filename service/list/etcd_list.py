@@ -16,7 +16,7 @@ import os
 import ssl
 import time
 from dataclasses import dataclass
-from typing import Any, Callable, Dict, Iterator, List, Optional, Sequence, Set, Tuple, TypeVar
+from typing import Any, Callable, Dict, Iterator, List, Optional, Sequence, Set, Tuple
 
 # Between calls gRPC looks at its connections only every five seconds, and needs several looks to connect again after an
 # outage. Leases would run out meanwhile. (gRPC reads this variable when it is imported.)
@@ -27,20 +27,20 @@ os.environ.setdefault("GRPC_VERBOSITY", "NONE")
 import etcd3
 import grpc
 from etcd3 import etcdrpc
-from etcd3.exceptions import (ConnectionFailedError, ConnectionTimeoutError, Etcd3Exception, InternalServerError,
-                              PreconditionFailedError)
 
 from chunks import Batch, NoChunk, ahead, is_batch, unpack
 from members import Place
 
-_T = TypeVar("_T")
 # How long a member may take to answer, and the pause after no member did.
 _SECONDS, _PAUSE = 2.0, 0.2
 # The slowest line that works, in bytes a second. A put gets time for its length at this rate: else no try succeeds.
 _SLOWEST = 128 << 10
+# How often a call looks whether its answer will come, and how much time such a call gets at most: its bytes must not
+# hold up the answer to that look.
+_LOOK, _SHORT = 0.1, _SECONDS + 0.25
 # After how long the log tells that no member does.
 _LONG = 5.0
-# How long a member may take to answer from its own memory, in addition to the round trip. It needs no other member.
+# How long a member may take to answer by what it has itself, in addition to the round trip. It needs no other member.
 _PRESENT = 0.5
 # A chunk may have 1.5 MB, and a page of entries several: the library's limit for answers is 4 MB.
 _OPTIONS = [("grpc.max_receive_message_length", 1 << 26), ("grpc.keepalive_time_ms", 10_000),
@@ -52,7 +52,7 @@ _PAGE, _SHORT_PAGE, _PAGE_SECONDS, _DELETED = 500, 32, 20.0, 100
 _PASSING = {grpc.StatusCode.UNAVAILABLE, grpc.StatusCode.DEADLINE_EXCEEDED, grpc.StatusCode.INTERNAL,
             grpc.StatusCode.RESOURCE_EXHAUSTED, grpc.StatusCode.CANCELLED, grpc.StatusCode.UNKNOWN}
 # What a call raises if all members refuse it.
-REFUSALS = (grpc.RpcError, Etcd3Exception)
+Refusal = grpc.RpcError
 # What all members answer alike. Other refusals may be those of one member, or of a proxy before it.
 _FINAL = {grpc.StatusCode.OUT_OF_RANGE, grpc.StatusCode.INVALID_ARGUMENT}
 
@@ -74,6 +74,10 @@ class Compacted(Exception):
     """etcd has forgotten the revisions that were asked for: read the chunks."""
 
 
+class _Unanswered(Exception):
+    """A member hangs, or has handed a call to a leader that leads no more. It may never answer."""
+
+
 class Ended(Exception):
     """A watch has ended. What came since then is to be read: over a slow line, a long batch makes a watch seem to hang
     each time that it is opened, and a page of the list may take longer."""
@@ -90,20 +94,20 @@ class Chunk:
 
 def _is_passing(failed: Exception) -> bool:
     """Whether another member, or a later try, may do better."""
-    if isinstance(failed, grpc.RpcError):
-        return failed.code() in _PASSING
-    return isinstance(failed, (ConnectionFailedError, ConnectionTimeoutError, InternalServerError))
+    return isinstance(failed, _Unanswered) or isinstance(failed, grpc.RpcError) and failed.code() in _PASSING
 
 
 def _is_refusal(failed: Exception) -> bool:
     """Whether a member refuses what another one may do."""
-    if isinstance(failed, grpc.RpcError):
-        return failed.code() not in _FINAL
-    return isinstance(failed, PreconditionFailedError)
+    return isinstance(failed, grpc.RpcError) and failed.code() not in _FINAL
 
 
 def _is_code(failed: Exception, code: grpc.StatusCode) -> bool:
     return isinstance(failed, grpc.RpcError) and failed.code() == code
+
+
+def _is_too_long(failed: Exception) -> bool:
+    return _is_code(failed, grpc.StatusCode.RESOURCE_EXHAUSTED) and "larger than max" in reason(failed)
 
 
 def reason(failed: Exception) -> str:
@@ -149,8 +153,10 @@ class EtcdList:
                          for host, port in pairs]
         self._places = {kind: Place(len(pairs)) for kind in ("append", "read", "watch")}
         self._entries, self._chunks = prefix + "entries/", prefix + "packed/"
-        # How many seconds the last reading of each member took.
+        # How many seconds the last reading of each member took. Before one has ended, a member may be far away.
         self._ways: Dict[int, float] = {}
+        # The last term that each member has told. A new leader begins a term.
+        self._terms: Dict[int, int] = {}
         # The IDs of the clusters of all members that have answered.
         self._clusters: Set[int] = set()
 
@@ -166,19 +172,24 @@ class EtcdList:
         for member in range(len(self._clients)):
             self.is_present(member)
 
-    def call(self, kind: str, ask: Callable[[Any], _T]) -> _T:
-        """Asks one member after another, until one answers. Raises what they say if all of them refuse."""
-        place, is_told, begun = self._places[kind], False, time.monotonic()
+    def call(self, name: str, request: Any, seconds: float = _SECONDS,
+             is_done: Callable[[], bool] = lambda: False) -> Any:
+        """Makes a call of etcd, by its name, at one member after another until one answers. Returns None once it is
+        done already. Raises what the members say if all of them refuse, or if an answer is too long."""
+        kind, is_told, begun = "read" if name == "Range" else "append", False, time.monotonic()
+        place = self._places[kind]
         while True:
             refusals = 0
             for _ in self._clients:
                 at = place.at
                 try:
-                    answer = ask(self._clients[at])
+                    answer = None if is_done() else self._ask(at, name, request, seconds)
                     if is_told:
                         logging.warning("%s: etcd answers again", kind)
                     return answer
                 except Exception as failed:
+                    if _is_too_long(failed):
+                        raise TooLong from None
                     refusals += not _is_passing(failed)
                     if not _is_passing(failed) and (not _is_refusal(failed) or refusals == len(self._clients)):
                         raise
@@ -189,6 +200,58 @@ class EtcdList:
                 logging.warning("%s: no member of etcd answers: %s", kind, said)
                 is_told = True
             time.sleep(_PAUSE)
+
+    def _ask(self, member: int, name: str, request: Any, seconds: float) -> Any:
+        """Makes a call of a member. Raises _Unanswered as soon as it is seen that no answer may come: a leader that
+        hangs, or was replaced, keeps what other members have handed to it."""
+        method, begun = getattr(self._clients[member].kvstub, name), time.monotonic()
+        looks = seconds <= _SHORT and member in self._ways
+        answer = self._asked_at_once(member, method, request) if looks else None
+        if answer is None:
+            term = self._terms.get(member)
+            answer = self._awaited(member, method.future(request, seconds), term, _LOOK if looks else None)
+        if name == "Range":
+            self._note_way(member, begun)
+        self._note(member, answer.header)
+        return answer
+
+    def _asked_at_once(self, member: int, method: Any, request: Any) -> Any:
+        """What a member answers before the first look, or None. Most answers come so, and a call that can be cancelled
+        takes longer."""
+        term = self._terms.get(member)
+        try:
+            return method(request, _LOOK + self._ways[member])
+        except grpc.RpcError as failed:
+            if not _is_code(failed, grpc.StatusCode.DEADLINE_EXCEEDED):
+                raise
+        self._look_at(member, term)
+        return None
+
+    def _awaited(self, member: int, asked: Any, term: Optional[int], look: Optional[float]) -> Any:
+        """Waits for what a member answers, and looks at it meanwhile. The term was read before the call began: another
+        thread may note the next one."""
+        while True:
+            try:
+                return asked.result(look)
+            except grpc.FutureTimeoutError:
+                try:
+                    term = self._look_at(member, term)
+                except _Unanswered:
+                    asked.cancel()
+                    raise
+
+    def _look_at(self, member: int, term: Optional[int]) -> int:
+        """Raises _Unanswered if a member hangs, or tells of another leader than that of a term. Returns its term."""
+        if not self.is_present(member):
+            raise _Unanswered("it hangs")
+        if term not in (None, self._terms[member]):
+            raise _Unanswered("another leader")
+        return self._terms[member]
+
+    def _note(self, member: int, header: Any) -> None:
+        """Notes what a member tells with each answer."""
+        self.note_cluster(header)
+        self._terms[member] = int(header.raft_term)
 
     def leave(self, kind: str, failed: int) -> None:
         """Has calls of a kind leave a member that failed. They go on at the next one that is present, so a hung one
@@ -202,26 +265,28 @@ class EtcdList:
             place.leave(at)
 
     def is_present(self, member: int) -> bool:
-        """Whether a member answers. One that does may still have no leader."""
-        own = etcdrpc.RangeRequest(key=self._entries.encode(), serializable=True)
+        """Whether a member answers. One that does may still have no leader. Calls of each kind leave one that has
+        answered before and does not now."""
+        own, begun = etcdrpc.RangeRequest(key=self._entries.encode(), serializable=True), time.monotonic()
         try:
             answer = self._clients[member].kvstub.Range(own, _PRESENT + self._ways.get(member, 0.0))
         except grpc.RpcError:
+            for place in self._places.values() if member in self._ways else ():
+                place.leave(member)
             return False
-        self.note_cluster(answer.header)
+        self._note_way(member, begun)
+        self._note(member, answer.header)
         return True
 
-    def _note_way(self, member: int, took: float) -> None:
-        """Notes how long an answer took. A member that is far away would seem to hang."""
-        self._ways[member] = min(took, _SECONDS)
+    def _note_way(self, member: int, begun: float) -> None:
+        """Notes how long a reading took. A member that is far away would seem to hang."""
+        self._ways[member] = min(time.monotonic() - begun, _SECONDS)
 
     def append(self, name: str, batch: bytes, is_there: Callable[[], bool] = lambda: False) -> Optional[int]:
         """Appends a batch. Returns its revision, or None if it was there already: an earlier try may have put it. It is
         not tried again once it is there: etcd may be slower than a call may take."""
         request = etcdrpc.PutRequest(key=(self._entries + name).encode(), value=batch, prev_kv=True)
-        put = self.call("append", lambda client: None if is_there() else client.kvstub.Put(request, _time_for(batch)))
-        if put is not None:
-            self.note_cluster(put.header)
+        put = self.call("Put", request, _time_for(batch), is_there)
         return None if put is None or put.HasField("prev_kv") else int(put.header.revision)
 
     def revision(self) -> int:
@@ -279,25 +344,12 @@ class EtcdList:
         end = _after(prefix.encode()) if range_end is None else range_end.encode()
         request = etcdrpc.RangeRequest(key=prefix.encode(), range_end=end, **words)
 
-        def ask(client: Any) -> Any:
-            try:
-                begun = time.monotonic()
-                answer = client.kvstub.Range(request, seconds)
-                self._note_way(self._clients.index(client), time.monotonic() - begun)
-                return answer
-            except grpc.RpcError as failed:
-                if _is_code(failed, grpc.StatusCode.RESOURCE_EXHAUSTED) and "larger than max" in reason(failed):
-                    raise TooLong from None
-                raise
-
         try:
-            answer = self.call("read", ask)
+            return self.call("Range", request, seconds)
         except grpc.RpcError as failed:
             if not _is_code(failed, grpc.StatusCode.OUT_OF_RANGE):
                 raise
             raise Compacted from None
-        self.note_cluster(answer.header)
-        return answer
 
     def watch(self, revision: int) -> "Watch":
         """What comes from a revision on."""
@@ -305,11 +357,9 @@ class EtcdList:
 
     def open_watch(self, request: Any) -> Tuple[Any, int]:
         """A stream of watch responses, and the number of its member. It ends if that member has no leader."""
-        def ask(client: Any) -> Tuple[Any, int]:
-            stub = etcdrpc.WatchStub(client.channel)
-            return stub.Watch(iter([request]), metadata=(("hasleader", "true"),)), self._clients.index(client)
-
-        return self.call("watch", ask)
+        at = self._places["watch"].at
+        stub = etcdrpc.WatchStub(self._clients[at].channel)
+        return stub.Watch(iter([request]), metadata=(("hasleader", "true"),)), at
 
     def pack(self, number: int, chunk: bytes) -> bool:
         """Writes a chunk. Returns whether it was written: of several writers of one chunk, one writes it."""
@@ -317,25 +367,26 @@ class EtcdList:
         is_new = etcdrpc.Compare(key=key, target=etcdrpc.Compare.CREATE, create_revision=0)
         put = etcdrpc.RequestOp(request_put=etcdrpc.PutRequest(key=key, value=chunk))
         request = etcdrpc.TxnRequest(compare=[is_new], success=[put])
-        return bool(self.call("append", lambda client: client.kvstub.Txn(request, _time_for(chunk))).succeeded)
+        return bool(self.call("Txn", request, _time_for(chunk)).succeeded)
 
     def _chunk_key(self, number: int) -> str:
         return f"{self._chunks}{number:08}"
 
     def spoil(self) -> None:
         """Puts what is no batch. So no replica goes on or starts on what is left of the list."""
-        self.call("append", lambda client: client.put(self._entries + "deleted", "a part of the list was deleted"))
+        request = etcdrpc.PutRequest(key=(self._entries + "deleted").encode(), value=b"a part of the list was deleted")
+        self.call("Put", request)
 
     def drop(self, revision: int, forgotten: int) -> None:
         """Deletes the batches up to a revision, and has etcd forget what was before another revision."""
         keys = [it.key for it in self._range(self._entries, keys_only=True, max_create_revision=revision).kvs]
         for at in range(0, len(keys), _DELETED):
-            part = keys[at:at + _DELETED]
-            self.call("append",
-                      lambda client: client.transaction([], [client.transactions.delete(key) for key in part], []))
+            deletions = [etcdrpc.RequestOp(request_delete_range=etcdrpc.DeleteRangeRequest(key=key))
+                         for key in keys[at:at + _DELETED]]
+            self.call("Txn", etcdrpc.TxnRequest(success=deletions))
         try:
             if forgotten:
-                self.call("append", lambda client: client.compact(forgotten))
+                self.call("Compact", etcdrpc.CompactionRequest(revision=forgotten))
         except grpc.RpcError as failed:
             if not _is_code(failed, grpc.StatusCode.OUT_OF_RANGE):
                 raise

@@ -33,11 +33,17 @@ PATIENCE = 10.0
 MEMBERS = 3
 # How a batch begins.
 BATCH = b"vlmlist1"
-# What an answer says of its cluster.
-HEADER = SimpleNamespace(cluster_id=7)
+# What an answer says of its cluster and its leader.
+HEADER = SimpleNamespace(cluster_id=7, raft_term=3)
+HEADER_OF_9 = etcdrpc.ResponseHeader(revision=9, cluster_id=7, raft_term=3)
 
 
 class Failed(grpc.RpcError):
+    def code(self):
+        return grpc.StatusCode.UNAVAILABLE
+
+
+class Late(grpc.RpcError):
     def code(self):
         return grpc.StatusCode.DEADLINE_EXCEEDED
 
@@ -57,11 +63,36 @@ class TooMuch(grpc.RpcError, grpc.Call):
         return "CLIENT: Received message larger than max (178257920 vs. 67108864)"
 
 
+class Method:
+    """A call of a member, which ends at once."""
+
+    def __init__(self, member, name):
+        self._member, self._name = member, name
+
+    def __call__(self, request, seconds):
+        return getattr(self._member, self._name)(request, seconds)
+
+    def future(self, request, seconds):
+        return SimpleNamespace(result=lambda _: self(request, seconds))
+
+
+class Hanging:
+    """A call that is never answered."""
+
+    def __init__(self):
+        self.cancel = mock.Mock()
+
+    def result(self, seconds):
+        assert seconds is not None
+        raise grpc.FutureTimeoutError
+
+
 class Member:
     """Counts what it is asked for, and fails what it is told to fail."""
 
     def __init__(self):
-        self.kvstub, self.channel, self.has_put = self, self, set()
+        self.kvstub = SimpleNamespace(**{name: Method(self, name) for name in ("Put", "Range", "Txn")})
+        self.channel, self.has_put, self.term = self, set(), HEADER.raft_term
         self.fails, self.calls = set(), {"append": 0, "read": 0, "presence": 0}
         self.seconds, self.way = [], 0.0
         self.cluster = HEADER.cluster_id
@@ -71,7 +102,8 @@ class Member:
         assert request.prev_kv
         self.seconds.append(seconds)
         self._call("append")
-        put = etcdrpc.PutResponse(header=etcdrpc.ResponseHeader(revision=9, cluster_id=self.cluster))
+        put = etcdrpc.PutResponse(header=etcdrpc.ResponseHeader(revision=9, cluster_id=self.cluster,
+                                                                raft_term=self.term))
         if request.key in self.has_put:
             put.prev_kv.create_revision = 8
         self.has_put.add(request.key)
@@ -82,7 +114,8 @@ class Member:
         if seconds < self.way:
             raise Failed
         time.sleep(self.way)
-        return SimpleNamespace(header=SimpleNamespace(revision=1, cluster_id=self.cluster), kvs=[])
+        header = SimpleNamespace(revision=1, cluster_id=self.cluster, raft_term=self.term)
+        return SimpleNamespace(header=header, kvs=[])
 
     def _call(self, kind):
         self.calls[kind] += 1
@@ -127,6 +160,50 @@ class Members(unittest.TestCase):
         self.store.append("a", b"")
         self.assertEqual(self.calls("append"), [1, 0, 1])
 
+    def hang(self, member):
+        """Has no call of a member to append end."""
+        hanging = Hanging()
+        self.members[member].Put = mock.Mock(side_effect=Late)
+        self.members[member].kvstub.Put.future = lambda *_: hanging
+        return hanging
+
+    def test_a_call_leaves_a_member_that_hangs_before_its_time_is_over(self):
+        self.hang(0)
+        self.store.revision()
+        self.members[0].fails = {"presence"}
+        self.assertEqual(self.store.append("a", b""), 9)
+        self.store.revision()
+        self.assertEqual((self.calls("append"), self.calls("read")), ([0, 1, 0], [1, 1, 0]))
+
+    def test_a_call_waits_for_a_member_that_is_slow(self):
+        answers = iter([grpc.FutureTimeoutError, grpc.FutureTimeoutError, etcdrpc.PutResponse(header=HEADER_OF_9)])
+        self.members[0].Put = mock.Mock(side_effect=Late)
+        self.members[0].kvstub.Put.future = lambda *_: SimpleNamespace(result=mock.Mock(side_effect=answers))
+        self.store.revision()
+        self.assertEqual(self.store.append("a", b""), 9)
+        self.assertEqual(self.calls("presence"), [3, 0, 0])
+
+    def test_a_call_is_repeated_once_another_member_leads(self):
+        self.hang(0)
+        self.store.revision()
+        self.members[0].term += 1
+        self.assertEqual(self.store.append("a", b""), 9)
+        self.assertEqual(self.calls("append"), [0, 1, 0])
+
+    def test_a_call_ends_once_its_member_hangs(self):
+        hanging = self.hang(0)
+        self.store.revision()
+        with mock.patch.object(self.store, "is_present", side_effect=[True, True, False, True]):
+            self.assertEqual(self.store.append("a", b""), 9)
+        self.assertEqual((hanging.cancel.call_count, self.calls("append")), (1, [0, 1, 0]))
+
+    def test_a_long_call_does_not_look_at_its_member(self):
+        asked = SimpleNamespace(result=mock.Mock(return_value=etcdrpc.PutResponse(header=HEADER_OF_9)))
+        self.members[0].kvstub.Put.future = lambda *_: asked
+        self.store.revision()
+        self.store.append("a", bytes(512 << 10))
+        asked.result.assert_called_with(None)
+
     def test_an_append_that_is_repeated_has_no_revision(self):
         self.assertEqual([self.store.append(name, b"") for name in "aba"], [9, 9, None])
 
@@ -136,7 +213,7 @@ class Members(unittest.TestCase):
         short, long = self.members[0].seconds
         self.assertLess(short, 2.1)
         self.assertGreaterEqual(long, 6)
-        self.members[0].Txn = mock.Mock(return_value=etcdrpc.TxnResponse(succeeded=True))
+        self.members[0].Txn = mock.Mock(return_value=etcdrpc.TxnResponse(header=HEADER_OF_9, succeeded=True))
         self.assertTrue(self.store.pack(1, bytes(512 << 10)))
         self.members[0].Range = mock.Mock(return_value=SimpleNamespace(header=HEADER, kvs=[]))
         self.assertEqual(list(self.store.chunks(0, 9)), [])

@@ -204,7 +204,7 @@ class Service(OverReplicas):
 
     def test_a_deadlock_is_found_by_the_service(self):
         p, q = self.begun(0), self.begun(1, "Q")
-        locks = [self.lock_of(it.ask(f"enq {name} PR name=circle block=1"), name) for it, name in ((p, "P"), (q, "Q"))]
+        locks = [self.lock_of(it.ask(f"enq {name} PR name=cycle block=1"), name) for it, name in ((p, "P"), (q, "Q"))]
         self.lock_of(p.ask(f"cvt P {locks[0]} EX block=1 ast=1"))
         self.lock_of(q.ask(f"cvt Q {locks[1]} EX block=1 ast=1"), "Q")
         self.assertEqual(q.next(), f"Q: completion 1 param 0 lock {locks[1]}")
