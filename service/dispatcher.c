@@ -140,10 +140,8 @@ bool dispatcher_has_locks(struct dispatcher *dispatcher) { return vlm_lock_count
 
 struct client *dispatcher_changed(struct dispatcher *dispatcher) {
     struct client *client = dispatcher->changed;
-    if (client != NULL) {
-        dispatcher->changed = client->next_changed;
-        client->is_changed = false;
-    }
+    if (client != NULL)
+        drop_change(client);
     return client;
 }
 
@@ -211,19 +209,11 @@ static void unlink_ready(struct client *client) {
         dispatcher->ready_end = at;
 }
 
-static void unlink_changed(struct client *client) {
-    struct client **at = &client->dispatcher->changed;
-    while (client->is_changed && *at != client)
-        at = &(*at)->next_changed;
-    if (client->is_changed)
-        *at = client->next_changed;
-}
-
 void client_close(struct client *client) {
     struct dispatcher *dispatcher = client->dispatcher;
     leave_session(client);
     unlink_ready(client);
-    unlink_changed(client);
+    drop_change(client);
     if (client->previous != NULL)
         client->previous->next = client->next;
     else

@@ -9,7 +9,7 @@
 
 #include "vlm.h"
 
-/* How much a user, a session or a client may have. docs/SERVICE.md has the meaning and the usual value of each. */
+/* How much a user, a session or a client may have. man/vlmd.8 has the meaning and the usual value of each. */
 struct limits {
     uint32_t connections; /* of a user */
     uint32_t processes;   /* of a user */

@@ -22,21 +22,27 @@ void say(const struct dispatcher *dispatcher, const char *format, ...) {
 void note_change(struct client *client) {
     if (client->is_changed || client->is_detached)
         return;
+    struct client *next = client->dispatcher->changed;
     client->is_changed = true;
-    client->next_changed = client->dispatcher->changed;
+    client->next_changed = next;
+    client->previous_changed = NULL;
+    if (next != NULL)
+        next->previous_changed = client;
     client->dispatcher->changed = client;
 }
 
-/* Ends a client whose bytes can't be kept. */
-static void cut_off(struct client *client, const char *reason) {
-    if (client->is_cut)
+/* The daemon has looked at a client, or is not to. */
+void drop_change(struct client *client) {
+    struct client *next = client->next_changed, *previous = client->previous_changed;
+    if (!client->is_changed)
         return;
-    client->is_cut = true;
-    /* (a replica runs the lines of a client until the others do not either) */
-    client->is_over |= !client->dispatcher->is_replica;
-    client->dispatcher->counts.cut_off++;
-    say(client->dispatcher, "client with pid %" PRIu32 " of user %" PRIu32 " is cut off: %s", client->rights.pid,
-        client->rights.uid, reason);
+    client->is_changed = false;
+    if (next != NULL)
+        next->previous_changed = previous;
+    if (previous != NULL)
+        previous->next_changed = next;
+    else
+        client->dispatcher->changed = next;
 }
 
 size_t unsent(const struct client *client) { return client->out_len - client->out_from; }
@@ -55,21 +61,59 @@ static bool make_room(struct client *client, size_t len) {
     return true;
 }
 
+/* Drops what is not sent yet, except for the rest of a line that is sent in part. */
+static void drop_unsent(struct client *client) {
+    size_t kept = 0;
+    if (client->is_amid) {
+        const uint8_t *from = client->out + client->out_from, *end = memchr(from, '\n', unsent(client));
+        kept = end != NULL ? (size_t)(end - from) + 1 : 0;
+        client->is_amid = end == NULL;
+    }
+    client->user->queued -= unsent(client) - kept;
+    client->out_len = client->out_from + kept;
+}
+
+static void add(struct client *client, const void *bytes, size_t len) {
+    memcpy(client->out + client->out_len, bytes, len);
+    client->out_len += len;
+    client->user->queued += len;
+}
+
+/* Ends a client whose bytes can't be kept. It may have a last line, which its socket takes now or never. */
+static void cut_off(struct client *client, const char *reason, const char *last) {
+    if (client->is_cut)
+        return;
+    client->is_cut = true;
+    drop_unsent(client);
+    if (last != NULL && !client->is_amid && make_room(client, strlen(last)))
+        add(client, last, strlen(last));
+    /* (a replica runs the lines of a client until the others do not either) */
+    client->is_over |= !client->dispatcher->is_replica;
+    client->dispatcher->counts.cut_off++;
+    say(client->dispatcher, "client with pid %" PRIu32 " of user %" PRIu32 " is cut off: %s", client->rights.pid,
+        client->rights.uid, reason);
+}
+
 void put(struct client *client, const void *bytes, size_t len) {
     note_change(client);
     if (client->is_cut || client->is_detached || len == 0)
         return;
     if (!client->is_told_at_length && unsent(client) + len > MOST_UNSENT + client->out_long) {
-        cut_off(client, "it does not read");
+        cut_off(client, "it does not read", NULL);
     } else if (client->user->queued + len > client->dispatcher->limits.queued) {
-        cut_off(client, "too many bytes wait for its user");
+        cut_off(client, "too many bytes wait for its user", "too many bytes\n");
     } else if (!make_room(client, len)) {
-        cut_off(client, "no memory");
+        cut_off(client, "no memory", NULL);
     } else {
-        memcpy(client->out + client->out_len, bytes, len);
-        client->out_len += len;
-        client->user->queued += len;
+        add(client, bytes, len);
     }
+}
+
+/* Puts what a client did not ask for, such as a grant. The daemon looks at the client before all others, which only
+ * have answers so far. */
+void put_news(struct client *client, const void *bytes, size_t len) {
+    drop_change(client);
+    put(client, bytes, len);
 }
 
 void put_text(struct client *client, const char *text) { put(client, text, strlen(text)); }
@@ -145,13 +189,14 @@ void replace_word(vlm_text *text, uint32_t place, uint64_t number) {
 }
 
 const uint8_t *client_output(const struct client *client, size_t *len) {
-    *len = client->is_cut ? 0 : unsent(client);
+    *len = unsent(client);
     return client->out == NULL ? NULL : client->out + client->out_from;
 }
 
 void client_sent(struct client *client, size_t len) {
     bool was_paused = unsent(client) > PAUSE;
     client->out_from += len;
+    client->is_amid = len != 0 ? client->out[client->out_from - 1] != '\n' : client->is_amid;
     client->user->queued -= len;
     client->out_long -= len < client->out_long ? len : client->out_long;
     if (client->out_from == client->out_len) {

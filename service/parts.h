@@ -46,7 +46,7 @@ enum {
     MOST_PROCESSES = VLM_MAX_NODES * NODE_PROCESSES,
     KEPT_ROOM = 256, /* of a client's output between two answers */
     NUMBER_DIGITS = 20,
-    PAIR = 512, /* bytes of an AST and its block line */
+    TOLD = 576, /* bytes of an AST, its block line and its token */
     KNOWN_BITS = 10,
     KNOWN_PLACES = 1 << KNOWN_BITS,
     KNOWN_WAYS = 4,   /* lines at a place */
@@ -138,6 +138,7 @@ struct session {
     uint64_t name;
     struct rights rights;
     uint64_t until;                  /* without a client: when it ends */
+    bool tells_tokens;               /* with each completion */
     bool is_killed;                  /* of a replica: no beat keeps its lease any more */
     uint64_t beat;                   /* of a replica: the place of the last beat */
     uint64_t heard, overdue;         /* of a replica: when that came by, and since when the lease is over, or 0 */
@@ -170,6 +171,7 @@ struct client {
     bool is_waiting;  /* its next line is a request, and the dispatcher is quiet */
     bool is_long;     /* the bytes up to the next line feed are too many */
     bool is_detached; /* it is another replica's, or its connection has ended */
+    bool is_amid;     /* the last line of which something was sent was not sent whole */
     bool is_ready, is_changed;
     struct rights rights;
     void *context;
@@ -181,7 +183,7 @@ struct client {
     size_t out_long;        /* unsent bytes up to the end of the last long answer: MOST_UNSENT does not count them */
     bool is_told_at_length; /* a long answer is being put: `queued` limits it, and MOST_UNSENT does not */
     struct client *previous, *next; /* of all clients */
-    struct client *next_ready, *next_changed;
+    struct client *next_ready, *next_changed, *previous_changed;
 };
 
 /* A request from its step to its end. */
@@ -378,7 +380,9 @@ uint64_t handle_of(const struct dispatcher *dispatcher, uint32_t lkid);
 /* output.c */
 size_t unsent(const struct client *client);
 void note_change(struct client *client);
+void drop_change(struct client *client);
 void put(struct client *client, const void *bytes, size_t len);
+void put_news(struct client *client, const void *bytes, size_t len);
 void put_text(struct client *client, const char *text);
 void put_format(struct client *client, const char *format, ...) __attribute__((format(printf, 2, 3)));
 void answer(struct client *client, const void *bytes, size_t len);

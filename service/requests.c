@@ -2,6 +2,7 @@
  * record, so the service knows when a request that waited has ended. A client hears of it if it asked for an AST. */
 #include "parts.h"
 
+#include <inttypes.h>
 #include <stdio.h>
 #include <stdlib.h>
 #include <string.h>
@@ -118,7 +119,7 @@ static void tell_session(struct session *session, const char *text, size_t len) 
     session->dispatcher->counts.asts++;
     /* (`lost` is the last line of a client) */
     if (session->client != NULL && !session->client->is_over)
-        put(session->client, text, len);
+        put_news(session->client, text, len);
 }
 
 /* The line of a process's AST in `text`. */
@@ -133,11 +134,12 @@ static void print_ast(struct process *process, const vlm_ast *ast, vlm_text *tex
         replace_word(text, 6, handle_of(dispatcher, ast->lkid));
 }
 
-/* Tells a completion, with the line of its status block: how the request ended, and the value. */
+/* Tells a completion, with the line of its status block: how the request ended, and the value. A session that wants
+ * tokens is told that of a grant too. */
 static void tell_completion(struct process *process, const struct request *record, vlm_ast *ast) {
     struct dispatcher *dispatcher = process->session->dispatcher;
     vlm_text text = {.size = sizeof text}, block = {.size = sizeof block};
-    char both[PAIR];
+    char told[TOLD];
     ast->routine = record->ast;
     print_ast(process, ast, &text);
     dispatcher->shown.kind = VLM_LINE_BLOCK;
@@ -145,8 +147,11 @@ static void tell_completion(struct process *process, const struct request *recor
     vlm_print_block(&dispatcher->manager, process->pid, &dispatcher->shown, &block);
     if (dispatcher->epoch != 0)
         replace_word(&block, 6, handle_of(dispatcher, record->lkid));
-    int len = snprintf(both, sizeof both, "%.*s%.*s", (int)text.len, text.bytes, (int)block.len, block.bytes);
-    tell_session(process->session, both, (size_t)len);
+    int len = snprintf(told, sizeof told, "%.*s%.*s", (int)text.len, text.bytes, (int)block.len, block.bytes);
+    if (process->session->tells_tokens && record->has_token)
+        len += snprintf(told + len, sizeof told - (size_t)len, "%.*s: token %" PRIu64 "\n", (int)process->name_len,
+                        process->name, token_of(dispatcher, record->lkid));
+    tell_session(process->session, told, (size_t)len);
 }
 
 static void complete(struct dispatcher *dispatcher, vlm_ast *ast) {

@@ -8,7 +8,7 @@
 #include <string.h>
 
 /* (the seconds are those of a replica's sessions) */
-enum { DIGITS = 16, FIRST_SESSIONS = 64, MOST_WORDS = 3, FEWEST_SECONDS = 2, USUAL_SECONDS = 10 };
+enum { DIGITS = 16, FIRST_SESSIONS = 64, MOST_WORDS = 3, MOST_OPEN_WORDS = 4, FEWEST_SECONDS = 2, USUAL_SECONDS = 10 };
 
 static const char wrong_word[] = "wrong word\n";
 
@@ -67,37 +67,49 @@ static bool is_label(struct word word) {
     return word.len > 0 && word.len < LABEL;
 }
 
-/* `open [seconds=N] [command=WORD]` */
-static void run_open(struct client *client, const struct word *words, size_t count) {
-    struct word rest, label = {"", 0};
-    bool is_replica = client->dispatcher->is_replica;
-    uint64_t seconds = is_replica ? USUAL_SECONDS : 0, fewest = 0;
-    if (count > MOST_WORDS) {
-        answer_text(client, wrong_word);
-        return;
-    }
-    for (size_t at = 1; at < count; at++) {
-        bool is_seconds = keyed(words[at], "seconds=", &rest);
-        if (is_seconds ? !decimal(rest, UINT64_MAX, &seconds) : !keyed(words[at], "command=", &label)) {
-            answer_text(client, wrong_word);
-            return;
+/* What a client asks of a new session. */
+struct wish {
+    uint64_t seconds;
+    bool has_seconds, tells_tokens;
+    struct word label; /* or of no bytes */
+};
+
+/* Reads `open [seconds=N] [command=WORD] [tokens]`. False where a word is wrong. */
+static bool read_open(const struct word *words, size_t count, struct wish *wish) {
+    bool is_right = count <= MOST_OPEN_WORDS;
+    for (size_t at = 1; at < count && is_right; at++) {
+        struct word rest;
+        if (is_word(words[at], "tokens")) {
+            wish->tells_tokens = true;
+        } else if (keyed(words[at], "seconds=", &rest)) {
+            wish->has_seconds = true;
+            is_right = decimal(rest, UINT64_MAX, &wish->seconds);
+        } else {
+            is_right = keyed(words[at], "command=", &wish->label);
         }
-        if (is_seconds)
-            fewest = is_replica ? FEWEST_SECONDS : 1;
     }
-    if (label.len != 0 && !is_label(label)) {
+    return is_right && (wish->label.len == 0 || is_label(wish->label));
+}
+
+static void run_open(struct client *client, const struct word *words, size_t count) {
+    bool is_replica = client->dispatcher->is_replica;
+    struct wish wish = {.seconds = is_replica ? USUAL_SECONDS : 0, .label = {"", 0}};
+    bool is_right = read_open(words, count, &wish);
+    uint64_t fewest = !wish.has_seconds ? 0 : is_replica ? FEWEST_SECONDS : 1;
+    if (!is_right) {
         answer_text(client, wrong_word);
-    } else if (seconds > MOST_SECONDS || seconds < fewest) {
+    } else if (wish.seconds > MOST_SECONDS || wish.seconds < fewest) {
         answer_text(client, "number out of range\n");
     } else if (client->session != NULL) {
         answer_text(client, "session open\n");
     } else if (client->user->sessions >= client->dispatcher->limits.connections) {
         answer_text(client, "too many sessions\n");
-    } else if ((client->session = new_session(client, (uint32_t)seconds)) == NULL) {
+    } else if ((client->session = new_session(client, (uint32_t)wish.seconds)) == NULL) {
         end_without_memory(client->dispatcher);
         answer_text(client, "no memory\n");
     } else {
-        memcpy(client->session->label, label.bytes, label.len);
+        memcpy(client->session->label, wish.label.bytes, wish.label.len);
+        client->session->tells_tokens = wish.tells_tokens;
         tell_session(client);
     }
 }

@@ -1,5 +1,8 @@
 /* vlmd: the lock manager for the processes of a machine, or one of several replicas. The event loop around the
- * dispatcher: docs/SERVICE.md, docs/CLUSTER.md. libuv waits. Nothing here is proved. */
+ * dispatcher: docs/SERVICE.md, docs/CLUSTER.md. Nothing here is proved.
+ *
+ * libuv waits. It hands out all events of a wait at once, where systemd's sd-event waits again after each. So a turn
+ * has one send for each client. */
 #define _GNU_SOURCE
 #include "names.h"
 

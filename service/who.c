@@ -5,7 +5,7 @@
 #include <stdio.h>
 #include <string.h>
 
-enum { NAME_TEXT = 72, QUEUES = 3, MOST_PASSED = 1000000 };
+enum { NAME_TEXT = 72, ROW_TEXT = 512, QUEUES = 3, MOST_PASSED = 1000000 };
 
 /* A walk over the locks. */
 struct walk {
@@ -15,6 +15,33 @@ struct walk {
     uint64_t rows;        /* of the resource, so far */
     uint64_t passed;      /* locks that searches for blockers may have passed over */
 };
+
+/* A line of a lock: words with a blank after each. (snprintf would take most of the time of a turn.) */
+struct row {
+    size_t len;
+    char text[ROW_TEXT];
+};
+
+static void add_bytes(struct row *row, const char *bytes, size_t len) {
+    memcpy(row->text + row->len, bytes, len);
+    row->text[row->len + len] = ' ';
+    row->len += len + 1;
+}
+
+static void add_word(struct row *row, const char *word) { add_bytes(row, word, strlen(word)); }
+
+static void add_number(struct row *row, uint64_t number) {
+    char digits[NUMBER_DIGITS];
+    size_t count = write_number(digits + NUMBER_DIGITS, number);
+    add_bytes(row, digits + NUMBER_DIGITS - count, count);
+}
+
+static void add_session(struct row *row, uint64_t name) {
+    char digits[16];
+    for (size_t at = 0; at < sizeof digits; at++)
+        digits[at] = "0123456789abcdef"[name >> (60 - 4 * at) & 15];
+    add_bytes(row, digits, sizeof digits);
+}
 
 static const char *mode_name(uint32_t mode) {
     static const char *const names[] = {"NL", "CR", "CW", "PR", "PW", "EX"};
@@ -33,37 +60,50 @@ static void take_name(struct walk *walk) {
 
 /* The session that a queued request waits for first. A search passes over the locks of the resource, so a walk with
  * very many of them tells no more blockers. */
-static void tell_blocker(struct walk *walk, const vlm_lock *lock) {
+static void add_blocker(struct row *row, struct walk *walk, const vlm_lock *lock) {
     struct dispatcher *dispatcher = walk->client->dispatcher;
     vlm_lock blocker = {.size = sizeof blocker};
     walk->passed += walk->rows;
     if (lock->queue != VLM_GRANTED && walk->passed <= MOST_PASSED)
         dispatcher->walked += walk->rows;
     if (lock->queue == VLM_GRANTED)
-        put_text(walk->client, " -\n");
+        add_word(row, "-");
     else if (walk->passed > MOST_PASSED || vlm_first_blocker(&dispatcher->manager, lock->lkid, &blocker) != VLM_NORMAL
              || blocker.lkid == 0)
-        put_text(walk->client, " ?\n");
+        add_word(row, "?");
     else
-        put_format(walk->client, " %016" PRIx64 "\n", process_of(dispatcher, blocker.pid)->session->name);
+        add_session(row, process_of(dispatcher, blocker.pid)->session->name);
+}
+
+static void add_session_facts(struct row *row, const struct session *session) {
+    add_session(row, session->name);
+    add_number(row, session->rights.pid);
+    add_number(row, session->rights.uid);
+    add_word(row, session->label[0] != 0 ? session->label : "-");
 }
 
 static void tell_lock(struct walk *walk, const vlm_lock *lock) {
     static const char *const queues[] = {"granted", "converting", "waiting"};
     struct dispatcher *dispatcher = walk->client->dispatcher;
     const struct process *process = process_of(dispatcher, lock->pid);
-    const struct session *session = process->session;
     const vlm_resource *resource = walk->resource;
-    char domain[16] = "system";
-    if (resource->is_system == 0)
-        snprintf(domain, sizeof domain, "%" PRIu32, resource->group);
-    put_format(walk->client, "%s %" PRIu32 " %" PRIu32 " %s %s %s %s", walk->name, resource->serial, resource->parent,
-               domain, mode_name(lock->held), mode_name(lock->want), queues[lock->queue]);
-    put_format(walk->client, " %" PRIu64 " %016" PRIx64 " %" PRIu32 " %" PRIu32 " %s %" PRIu64,
-               handle_of(dispatcher, lock->lkid), session->name, session->rights.pid, session->rights.uid,
-               session->label[0] != 0 ? session->label : "-",
-               (dispatcher->now - process->uses[lock->block].since) / 1000);
-    tell_blocker(walk, lock);
+    struct row row = {.len = 0};
+    add_word(&row, walk->name);
+    add_number(&row, resource->serial);
+    add_number(&row, resource->parent);
+    if (resource->is_system != 0)
+        add_word(&row, "system");
+    else
+        add_number(&row, resource->group);
+    add_word(&row, mode_name(lock->held));
+    add_word(&row, mode_name(lock->want));
+    add_word(&row, queues[lock->queue]);
+    add_number(&row, handle_of(dispatcher, lock->lkid));
+    add_session_facts(&row, process->session);
+    add_number(&row, (dispatcher->now - process->uses[lock->block].since) / 1000);
+    add_blocker(&row, walk, lock);
+    row.text[row.len - 1] = '\n';
+    put(walk->client, row.text, row.len);
 }
 
 static void tell_resource(struct walk *walk) {

@@ -18,6 +18,8 @@ SOURCES = sorted((TOP / "service").glob("*.c"))
 # The files of the dispatcher and of a replica, without the daemon around them.
 DAEMON = ("vlmd.c", "connections.c", "secured.c", "names.c", "config.c", "rows.c", "list.c", "start.c")
 DISPATCHER = [it for it in SOURCES if it.name not in DAEMON]
+# Programs stop at each bad access.
+SANITIZED = ("-fsanitize=address,undefined", "-fno-sanitize-recover=all")
 # A list in memory, for a replica that is alone.
 LIST = TOP / "tests" / "service" / "one_list.py"
 # How long an answer may take.
@@ -38,10 +40,19 @@ def compiled(name, *words, tls=None):
     return made
 
 
+def over_dispatcher(name, source, compiler, *words):
+    """Compiles a program of tests/service over the dispatcher, without a daemon. Gives its path, and what is wrong with
+    that."""
+    made = Path(ROOM().name) / name
+    return made, list(library.ran(compiler, "-std=gnu11", *library.STRICT, "-O1", "-g", *words,
+                                  f"-I{library.prefix()}/include", f"-I{TOP}/service",
+                                  TOP / "tests" / "service" / source, *DISPATCHER,
+                                  library.prefix() / "lib" / "libvlm.a", "-pthread", "-o", made))
+
+
 # The daemon as it is installed, and one that stops at each bad access.
 PLAIN = Once(lambda: compiled("vlmd", "-O2"))
-CHECKED = Once(lambda: compiled("vlmd checked", "-O1", "-g", "-fsanitize=address,undefined",
-                                "-fno-sanitize-recover=all"))
+CHECKED = Once(lambda: compiled("vlmd checked", "-O1", "-g", *SANITIZED))
 
 
 class Daemon:

@@ -26,7 +26,7 @@ import service_replicas
 import service_scripts
 import service_tls
 import service_tokens
-from daemons import CHECKED, DISPATCHER, NOBODY, PLAIN, Client, Daemon, lone_replica
+from daemons import CHECKED, NOBODY, PLAIN, SANITIZED, Client, Daemon, lone_replica, over_dispatcher
 from harness import PLAY, ROOM, TOP, Test, difference
 from service_scripts import MODES
 from time_of_day import FAKED_TIME, TimeOfDay
@@ -39,7 +39,6 @@ MUTATED_SECONDS = 8
 LISTS = 200
 # How long clients come and go.
 STORM_SECONDS = 6
-SANITIZED = ("-fsanitize=address,undefined", "-fno-sanitize-recover=all")
 ZEROS = 32 * "0"
 
 
@@ -704,7 +703,7 @@ def under_systemd(_program):
         yield from difference((ended.returncode, "one ListenStream" in ended.stderr), (4, True))
 
 
-def circle(one, other):
+def cycle(one, other):
     """P of a client and Q of another wait for each other: the request for lock 4 came last."""
     one.ask("enq P EX name=A block=1")
     other.ask("enq Q EX name=B block=1")
@@ -715,7 +714,7 @@ def circle(one, other):
 def not_searched(_program):
     """A daemon that is to search for no deadlocks lets one stand, and is idle."""
     with Daemon("search 0") as daemon, daemon.client().begin("P") as one, daemon.client().begin("Q") as other:
-        circle(one, other)
+        cycle(one, other)
         before = daemon.processor_time()
         yield from difference((one.is_quiet(0.7), other.is_quiet(0.7)), (True, True))
         if daemon.processor_time() - before > 0.5:
@@ -737,7 +736,7 @@ def awake(_program):
 def deadlocked(_program):
     """A deadlock of two clients ends, with its most recent request, and the cycle is logged."""
     with Daemon("search 200") as daemon, daemon.client().begin("P") as one, daemon.client().begin("Q") as other:
-        circle(one, other)
+        cycle(one, other)
         yield from difference(other.line(), "Q: completion 2 param 0 lock 4")
         yield from difference(other.line(), f"Q: block 2 status 6 lock 4 value {ZEROS}")
         yield from difference(one.is_quiet(), True)
@@ -755,7 +754,7 @@ def deadlocked_among_many(_program):
         many.ask("declare S")
         for number, process in itertools.product(range(65), "RS"):
             many.ask(f"enq {process} EX name=C{number} block=1")
-        circle(one, other)
+        cycle(one, other)
         other.line()
         told = re.findall("deadlock: (.*)", daemon.log.read_text())
         yield from difference([re.sub(" of session [0-9a-f]{16}, ", " of session S, ", it) for it in told],
@@ -857,14 +856,6 @@ def turned_away(_program):
             yield from difference(client.greeting, "vlm protocol 1 epoch 0")
         for client in let_in:
             client.close()
-
-
-def over_dispatcher(name, source, compiler, *words):
-    """Compiles a program over the dispatcher. Gives its path, and what is wrong with that."""
-    made = Path(ROOM().name) / name
-    return made, list(library.ran(compiler, "-std=gnu11", *library.STRICT, "-O1", "-g", *words,
-                                  f"-I{library.prefix()}/include", f"-I{TOP}/service", HERE / source, *DISPATCHER,
-                                  library.prefix() / "lib" / "libvlm.a", "-pthread", "-o", made))
 
 
 def known_lines(_program):

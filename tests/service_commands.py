@@ -20,7 +20,9 @@ from daemons import PLAIN, Daemon
 from harness import ROOM, TOP, Once, Test, difference
 from proxies import Proxy, addresses
 
-SOURCES = [*sorted((TOP / "service" / "commands").glob("*.c")), *sorted((TOP / "bindings" / "c").glob("vlm_client*.c"))]
+LAYERS = TOP / "bindings" / "c"
+SOURCES = [*sorted((TOP / "service" / "commands").glob("*.c")), *sorted(LAYERS.glob("vlm_client*.c")),
+           LAYERS / "vlm_conditions.c"]
 VALUE = "000102030405060708090a0b0c0d0e0f"
 # How long a command may take.
 SECONDS = 60
@@ -432,7 +434,8 @@ def turned_away(_program):
 
 def shown_shells(_program):
     """What is wrong with the commands that the README shows in two shells: the second one gives up when its time is
-    over, and `vlm who` shows the holder."""
+    over, and `vlm who` shows the holder. All that takes less than a minute."""
+    begun = time.monotonic()
     page = (TOP / "README.md").read_text()
     shown = re.search(r"^```text\n(\$ vlmd &\n.*?)^```", page, re.M | re.S)[1].splitlines()
     daemon, hold, ask, look = (re.split(r" {3,}", line)[0].removeprefix("$ ") for line in shown)
@@ -452,6 +455,8 @@ def shown_shells(_program):
         yield from difference((is_held, second(ask)), (True, "busy\n"))
         if time.monotonic() - began < seconds:
             yield "it did not wait"
+        if time.monotonic() - begun > 60:
+            yield "it takes more than a minute"
         os.killpg(first.pid, signal.SIGTERM)
         first.wait(SECONDS)
 

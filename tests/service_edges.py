@@ -13,11 +13,10 @@ import time
 from pathlib import Path
 
 import library
-from daemons import DISPATCHER, NOBODY, SECONDS, Daemon, compiled
+from daemons import NOBODY, SANITIZED, SECONDS, Daemon, compiled, over_dispatcher
 from harness import ROOM, TOP, Once, Test, difference
 from service_replicas import until
 
-SANITIZED = ("-O1", "-g", "-fsanitize=address,undefined", "-fno-sanitize-recover=all")
 # Groups of no user of the system.
 FIRST, SECOND, LOCKERS, ADMINISTRATORS = range(50001, 50005)
 # A user's further groups; then its UIC group, whether it has SYSLCK, and whether it is an administrator.
@@ -41,16 +40,21 @@ def members(_program):
                 yield from difference((groups, *found), (groups, *wanted))
 
 
-def flood(client):
+def flood(client, line=b"block P 1\n"):
     """Sends lines until nothing more is taken, and reads no answers. Returns how many were sent."""
     client.socket.setblocking(False)
     sent = 0
     try:
         while True:
-            sent += client.socket.send(b"block P 1\n" * 1000)
+            sent += client.socket.send(line * 1000)
     except OSError:
         client.socket.settimeout(SECONDS)
-        return sent // 10
+        return sent // len(line)
+
+
+def is_at_rest(daemon):
+    """Whether a daemon makes no steps: it runs lines of each client in each turn."""
+    return len({daemon.metric("steps_total") for _ in range(5)}) == 1
 
 
 def answers(client):
@@ -75,13 +79,27 @@ def queued(_program):
         yield from difference(sum(whole), 1)
 
 
+def told_of_queued(_program):
+    """What is wrong where a client that reads is cut off since another one of its user does not: it is told why."""
+    with Daemon("queued 80000") as daemon, daemon.client().begin("P") as one, daemon.client().begin("P") as two:
+        for name in range(400):
+            two.ask(f"enq P NL name=N{name} block=1")
+        flood(one, b"deq P 999999\n")
+        yield from difference(until(lambda: is_at_rest(daemon), SECONDS), True)
+        yield from difference(two.ask_all("show")[-1:], ["too many bytes"])
+        yield from difference((answers(two), daemon.metric("clients_cut_off_total")), (0, 1))
+
+
 def turns(_program):
     """What is wrong with the lines of a turn, and with the bytes that wait in the dispatcher for a client that does not
     read."""
-    made = Path(ROOM().name) / "turns"
-    wrong = list(library.ran("cc", "-std=gnu11", *library.STRICT, *SANITIZED, f"-I{library.prefix()}/include",
-                             f"-I{TOP}/service", TOP / "tests" / "service" / "turns.c", *DISPATCHER,
-                             library.prefix() / "lib" / "libvlm.a", "-pthread", "-o", made))
+    made, wrong = over_dispatcher("turns", "turns.c", "cc", *SANITIZED)
+    yield from wrong or library.ran(made)
+
+
+def turn_times(_program):
+    """What is wrong with the time that turns take."""
+    made, wrong = over_dispatcher("turn times", "turn_times.c", "cc", "-O2")
     yield from wrong or library.ran(made)
 
 
@@ -159,7 +177,7 @@ def renamed(_program):
         text = re.sub(r"\bvlm_threads( \*|_options\b)", r"vlm_client\1", text).replace(", .tied = 1", "")
         made = Path(ROOM().name) / f"renamed {source.stem}"
         made.with_suffix(".c").write_text(text)
-        wrong = list(library.ran("cc", "-std=gnu11", *SANITIZED, f"-I{library.prefix()}/include",
+        wrong = list(library.ran("cc", "-std=gnu11", "-O1", "-g", *SANITIZED, f"-I{library.prefix()}/include",
                                  made.with_suffix(".c"), library.prefix() / "lib" / "libvlm.a", "-pthread", "-o", made))
         yield from wrong
         if wrong:
@@ -205,7 +223,10 @@ def sandboxed(_program):
 
 
 def tests():
-    checks = {"a user with too many queued bytes": queued, "turns, and bytes that nobody reads": turns,
+    checks = {"a user with too many queued bytes": queued,
+              "a client that reads, beside too many queued bytes": told_of_queued,
+              "turns, and bytes that nobody reads": turns,
+              "the time of turns": turn_times,
               "keys of a daemon": keys, "a usual search for deadlocks": usual_search,
               "since when a lock is": since_when, "programs whose calls are renamed": renamed,
               "the dispatcher without input and output": alone}

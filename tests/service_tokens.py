@@ -21,7 +21,7 @@ GOOD = (1, 7)
 BLOCKS = 3
 LINES = 1500
 # What a run of the witness has to see, or it has seen too little.
-KINDS = ("new", "converted", "several", "at once", "waiting", "refused", "kept", "given up", "closed")
+KINDS = ("new", "converted", "several", "at once", "waiting", "refused", "kept", "given up", "closed", "told")
 
 
 def token(client, lock):
@@ -38,7 +38,8 @@ class Asker:
         self.begin()
 
     def begin(self):
-        self.client.begin(f"P blocks={BLOCKS}")
+        for line in ("open tokens", f"declare P blocks={BLOCKS}"):
+            self.client.ask(line)
         self.locks, self.under_way, self.at_once = set(), {}, []
 
     def close(self):
@@ -60,15 +61,16 @@ class Asker:
         return lock
 
     def ended(self):
-        """The locks whose requests have ended, and whether each ended well. A request with SYNCSTS that is granted at
-        once has no completion."""
-        yield from ((self.at_once.pop(), True) for _ in self.at_once[:])
+        """The locks whose requests have ended, whether each ended well, and the token that came with its completion. A
+        request with SYNCSTS that is granted at once has no completion."""
+        yield from ((self.at_once.pop(), True, None) for _ in self.at_once[:])
         self.client.send("alive")
         while (line := self.client.line()) != "alive":
             found = re.fullmatch(r"P: completion (\d+) param 0 lock (\d+)", line)
             status = int(re.match(r"P: block \d+ status (\d+)", self.client.line())[1])
             del self.under_way[int(found[1])]
-            yield int(found[2]), status in GOOD
+            is_well = status in GOOD
+            yield int(found[2]), is_well, is_well and int(re.fullmatch(r"P: token (\d+)", self.client.line())[1])
 
 
 class Witness:
@@ -119,8 +121,12 @@ class Witness:
     def compare(self, line, own=None):
         """Compares the tokens after a line: `own` is the lock of its request. Grants of the line have greater tokens
         than all before, and its own request has the least of them. Other locks have the tokens that they had."""
-        granted = [lock for asker in self.askers for lock, is_well in asker.ended() if is_well]
+        came = {lock: number for asker in self.askers for lock, is_well, number in asker.ended() if is_well}
+        granted = list(came)
         told = {lock: token(asker.client, lock) for asker in self.askers for lock in asker.locks}
+        for lock, number in came.items():
+            self.check(line, number in (None, told[lock]))
+            self.seen["told"] += number is not None
         new = sorted(told[lock] for lock in granted if told[lock] is not None)
         self.check(line, all(it > self.greatest for it in new) and len(set(new)) == len(new))
         self.check(line, own not in granted or told[own] == new[0])
@@ -172,6 +178,26 @@ def witnessed(seed, _program):
             yield f"hardly seen: {unseen}"
         if daemon.metric("epoch") < 1:
             yield "no change of managers was seen"
+
+
+def told_again(_program):
+    """A session that is told tokens gets them again by a resume, and one that did not ask for them gets none. A request
+    that fails brings none."""
+    with Daemon("search 0") as daemon, daemon.client() as client, daemon.client().begin("P") as other:
+        name = client.ask("open seconds=60 tokens").split()[1]
+        for line in ("declare P", "enq P PR name=A block=1"):
+            client.ask(line)
+        other.ask("enq P PR name=A block=1 ast=1")
+        yield from difference([other.line(), other.line(), other.is_quiet()][2], True)
+        client.ask("cvt P 1 EX block=1 ast=7")
+        client.ask("deq P 1 cancel")
+        yield from difference([client.line()[:13], client.line()[:18]], ["P: completion", "P: block 1 status "])
+        client.ask("cvt P 1 NL block=1 ast=8")
+        told = [client.line() for _ in range(3)]
+        yield from difference(told[2], f"P: token {token(client, 1)}")
+        with daemon.client() as again:
+            again.ask(f"resume {name} asts=1")
+            yield from difference([again.line() for _ in range(3)], told)
 
 
 def restarted(_program):
@@ -314,8 +340,9 @@ def ranges(_program):
 
 
 def tests():
-    checks = {"tokens of many locks": many, "tokens of another lock manager": changed,
-              "tokens over restarts": restarted, "tokens of waiting requests": waiting, "tokens of victims": victims,
+    checks = {"tokens of many locks": many, "tokens that are told": told_again,
+              "tokens of another lock manager": changed, "tokens over restarts": restarted,
+              "tokens of waiting requests": waiting, "tokens of victims": victims,
               "tokens of one status block": blocks, "tokens of another session": hidden, "ranges of tokens": ranges,
               "a disk that takes no epoch": unsynced}
     return [Test(name, check) for name, check in checks.items()] \

@@ -113,14 +113,47 @@ static void test_asts(void) {
     client_close(other);
 }
 
-int main(void) {
+/* A client whose user has too many bytes gets the rest of a line that is sent in part, and why. Nobody gets more. */
+static void test_queued(size_t sent) {
+    static const char answer[] = "P: block 1 status 0 lock 0 value 00000000000000000000000000000000\n";
+    static const char last[] = "too many bytes\n";
+    struct client *client = joined("declare P\n"), *other = joined("declare P\n");
+    size_t rest = sent != 0 ? strlen(answer) - sent : 0, len, waiting;
+    send_line(client, "block P 1\n");
+    client_sent(client, sent);
+    while (!client_is_cut(client)) {
+        send_line(other, "block P 1\n");
+        send_line(client, "block P 1\n");
+    }
+    const char *bytes = (const char *)client_output(client, &len);
+    CHECK(len == rest + strlen(last));
+    CHECK(memcmp(bytes, answer + strlen(answer) - rest, rest) == 0 && memcmp(bytes + rest, last, strlen(last)) == 0);
+    client_output(other, &waiting);
+    CHECK(client->user->queued == len + waiting);
+    client_close(client);
+    client_close(other);
+}
+
+static void test_limits(const struct limits *limits, void (*test)(size_t number), size_t number) {
     static const uint8_t keys[KEYS] = {1, 2, 3};
-    struct limits limits = USUAL_LIMITS;
-    limits.locks = limits.waiting = 2 * LOCKS;
-    dispatcher = dispatcher_open(&limits, 0, keys, be_silent);
+    dispatcher = dispatcher_open(limits, 0, keys, be_silent);
+    test(number);
+    dispatcher_close(dispatcher);
+}
+
+static void test_usual(size_t number) {
+    (void)number;
     test_turns();
     test_answers();
     test_asts();
-    dispatcher_close(dispatcher);
+}
+
+int main(void) {
+    struct limits usual = USUAL_LIMITS, few = USUAL_LIMITS;
+    usual.locks = usual.waiting = 2 * LOCKS;
+    few.queued = LONGEST;
+    test_limits(&usual, test_usual, 0);
+    test_limits(&few, test_queued, 0);
+    test_limits(&few, test_queued, strlen("P: block"));
     return 0;
 }
