@@ -374,11 +374,11 @@ def headers(compiler, _program):
 
 
 def page(_program):
-    """docs/VMS.md names each service, flag, item, condition and setting, and no other."""
+    """docs/VMS.md names each service, flag, condition and setting."""
     text = (TOP / "docs" / "VMS.md").read_text()
-    there = {name for it in HEADERS for name in re.findall(r"^#define ((?:SS|LCK|LKI)\$_?\w+)", it.read_text(), re.M)}
-    there = declared() | {it for it in there if re.match(r"SS\$_|LCK\$M_|LKI\$_", it)}
-    named = set(re.findall(r"`((?:sys|lib)\$\w+|SS\$_\w+|LCK\$M_\w+|LKI\$_\w+)`", text))
+    there = {name for it in HEADERS for name in re.findall(r"^#define ((?:SS\$_|LCK\$M_)\w+)", it.read_text(), re.M)}
+    there |= declared()
+    named = set(re.findall(r"`((?:sys|lib)\$\w+|SS\$_\w+|LCK\$M_\w+)`", text))
     yield from (f"docs/VMS.md has no {name}" for name in sorted(there - named))
     settings = {name for it in SOURCES for name in re.findall(r'vms_setting\("(\w+)"\)', it.read_text())}
     yield from (f"docs/VMS.md has no VLM${name}" for name in sorted(settings) if f"`VLM${name}`" not in text)

@@ -1,4 +1,5 @@
-/* Item codes of sys$getlki, and what the items have. The codes' numbers are this project's own. */
+/* Item codes of sys$getlki, and what the items have. The codes' numbers are this project's own. For LKI$_RSBREFCNT all
+ * resources are read. */
 #ifndef LKIDEF_H
 #define LKIDEF_H
 #pragma GCC system_header
@@ -32,7 +33,7 @@
 #define LKI$C_CONVERT 0
 #define LKI$C_GRANTED 1
 
-/* Of LKI$_STATE. */
+/* Of LKI$_STATE. A granted lock wants what it holds, and a waiting one holds NL. */
 typedef struct lkistate {
     unsigned char lki$b_state_rqmode;
     unsigned char lki$b_state_grmode;

@@ -1,5 +1,5 @@
 /* Condition values of the system services for locks. The lowest three bits are the severity, and an odd value is a
- * success. docs/VMS.md says which numbers are this project's own: programs name them. */
+ * success. Programs use the names, since some numbers differ from the original's. docs/VMS.md says when each comes. */
 #ifndef SSDEF_H
 #define SSDEF_H
 #pragma GCC system_header

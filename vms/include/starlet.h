@@ -65,7 +65,12 @@ int sys$enqw(unsigned int efn, unsigned int lkmode, void *lksb, unsigned int fla
 int sys$deq(unsigned int lkid, void *valblk, unsigned int acmode, unsigned int flags);
 
 /* Reads about a lock what the item list asks for. *lkidadr is the lock. With 0 or -1 there, a walk over all locks that
- * the process may see begins: each call reads the next lock and writes its ID, and SS$_NOMORELOCK ends it.
+ * the process may see begins: each call reads the next lock and writes its ID, and SS$_NOMORELOCK ends it. The walk is
+ * known by the address of its longword, and by what was written there last: leave both alone until it ends, and name a
+ * lock that is read meanwhile in another longword. Locks that are made meanwhile are not in it. A walk that was not
+ * ended keeps about 30 bytes for each lock, until its longword names another lock or begins another walk.
+ * A return length has in the low word the bytes that were written, in the upper word 24 for a list, and bit 31 if there
+ * was more. With vlmd each list is read for itself, so a lock may go between two items.
  * The reading is made before the call returns; the status is also written to iosb, if it is not null.
  * SS$_NORMAL, SS$_ACCVIO, SS$_BADPARAM (an unknown item), SS$_EXQUOTA (too many locks for the lock service to list),
  * SS$_ILLEFC, SS$_INSFMEM, SS$_IVLOCKID, SS$_NOMORELOCK, SS$_UNASEFC, SS$_UNREACHABLE, SS$_NODELEAVE,
