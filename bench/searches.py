@@ -23,7 +23,7 @@ def chain(count):
             + [f"enq P{number} EX name=R{number + 1} block=2" for number in range(count)])
 
 
-def circles(count):
+def cycles(count):
     """Each two processes wait for each other."""
     return (declared(count) + [f"enq P{number} EX name=R{number} block=1" for number in range(count)]
             + [f"enq P{number} EX name=R{number ^ 1} block=2" for number in range(count)])
@@ -47,7 +47,7 @@ def conversions(count):
             + [f"cvt P{number} @1 {by_turns(number)} block=1" for number in range(count)])
 
 
-def long_circle(count):
+def long_cycle(count):
     """The holder waits for a process that is the last of so many to queue behind it."""
     return (declared(count + 1) + [f"enq P{count} EX name=A block=1", f"enq P{count - 1} EX name=B block=2",
                                    f"enq P{count} EX name=B block=2"]
@@ -69,11 +69,11 @@ def many_processes(count):
 LINEAR = {
     waiting: "requests for EX wait in one queue",
     chain: "each request waits for the next resource",
-    circles: "two processes wait for each other, many times",
+    cycles: "two processes wait for each other, many times",
     beside_holders: "requests for EX and PW by turns wait behind as many that hold CR",
     beside_expedited: "the same behind one that holds EX, beside as many at NL",
     conversions: "locks at CR convert to EX and PW by turns",
-    long_circle: "the last request of a queue closes a circle through all of it",
+    long_cycle: "the last request of a queue closes a cycle through all of it",
     one_process: "requests with NODLCKBLK of one process wait on one resource",
 }
 QUADRATIC = {many_processes: "locks at CR of many processes convert with NODLCKBLK"}
