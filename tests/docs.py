@@ -38,16 +38,11 @@ def short_readme(_program):
 
 
 def crate_table(_program):
-    """docs/ARCHITECTURE.md has one row for each crate of crates.txt, in order, with what it uses."""
-    lines = [line.partition("#")[0].partition(":") for line in text_of("crates.txt").splitlines()]
-    wanted = [(name.split()[0], uses.split()) for name, colon, uses in lines if colon]
-    rows = re.findall(r"^\| `(vlm\w*)` \| ([^|]*) \|", text_of("docs/ARCHITECTURE.md"), re.M)
-    found = [(name, [] if uses.strip() == "none" else uses.replace("`", "").split()) for name, uses in rows]
-    for name, uses in wanted:
-        if (name, uses) not in found:
-            yield f"no row of {name} with {' '.join(uses) or 'none'}"
-    if [name for name, _ in found] != [name for name, _ in wanted]:
-        yield f"the rows are {[name for name, _ in found]}"
+    """docs/ARCHITECTURE.md has one row for each crate of crates.txt, in order."""
+    wanted = re.findall(r"^(\w+)(?: staticlib)?:", text_of("crates.txt"), re.M)
+    found = re.findall(r"^\| `(vlm\w*)` \|", text_of("docs/ARCHITECTURE.md"), re.M)
+    if len(wanted) < 20 or found != wanted:
+        yield f"the rows are {found}"
 
 
 def sources(pattern="src"):
@@ -200,7 +195,7 @@ def calls(_program):
     page = text_of("man/vlm.3")
     for section, headers in (("CALLS", ("vlm.h",)), ("HUB", ("vlm_hub.h", "vlm_hub_wait.h")),
                              ("THREADS", ("vlm_threads.h",)), ("SERVICE", ("vlm_client.h",))):
-        there = re.findall(r"^(?:static inline )?(?:uint32_t|size_t|void|const char \*) ?(vlm_\w+)\(",
+        there = re.findall(r"^(?:uint32_t|size_t|void|const char \*) ?(vlm_\w+)\(",
                            "".join(text_of(f"include/{name}") for name in headers), re.M)
         named = re.findall(r"^(vlm_\w+)\t", page.partition(f".SH {section}\n")[2].partition(".SH ")[0], re.M)
         if len(there) < 13 or sorted(there) != sorted(named):
@@ -208,9 +203,9 @@ def calls(_program):
 
 
 def exported(headers):
-    """The calls that headers declare, except those that they define."""
+    """The calls that headers declare."""
     text = re.sub(r"/\*.*?\*/", "", "".join(file.read_text() for file in headers), flags=re.S)
-    return set(re.findall(r"\b(vlm_\w+)\(", text)) - set(re.findall(r"\bstatic inline [^;{]*?(vlm_\w+)\(", text))
+    return set(re.findall(r"\b(vlm_\w+)\(", text))
 
 
 def symbols(_program):
@@ -221,11 +216,48 @@ def symbols(_program):
         yield f"packaging/libvlm.symbols and the headers differ in {sorted(there ^ named)}"
 
 
+# The types of handles. One that a call writes, after its own, is an answer; the bells are those of the handle.
+HANDLES = ("vlm", "vlm_hub", "vlm_port", "vlm_threads", "vlm_client", "vlm_hub_service", "vlm_bell")
+# Calls with another order, with the reason.
+OTHER_ORDER = {"vlm_port_posted": "it is wrapped around a post, whose answer comes first",
+               "vlm_hub_answer_reads": "one count counts reads and bells"}
+
+
+def places_of(arguments):
+    """The place of each argument in the order of arguments: 0 for a handle, 1 for a process or node, 2 for what is
+    asked, 3 for where the answer goes."""
+    places = []
+    for argument in arguments:
+        kind, _, name = argument.rpartition(" ")
+        if kind in HANDLES and name.count("*") == 1 and (kind == "vlm_bell" or not any(places)):
+            places.append(0)
+        elif argument in ("uint32_t pid", "uint32_t node"):
+            places.append(1)
+        elif kind == "size_t" and "*" not in name and places:
+            places.append(places[-1])
+        else:
+            is_read = "*" not in name or "(" in argument or kind.startswith("const ") or kind == "vlm_threads_request"
+            places.append(2 if is_read else 3)
+    return places
+
+
+def argument_order(_program):
+    """Each call of the headers has the order of arguments that docs/LIBRARY.md names."""
+    text = "".join(file.read_text() for file in (TOP / "include").glob("*.h"))
+    found = re.findall(r"^(?:uint32_t|size_t|void) (vlm_\w+)\(([^;{]*)\);", text, re.M)
+    if {name for name, _ in found} | {"vlm_condition_name"} != exported((TOP / "include").glob("*.h")):
+        yield f"the calls are {[name for name, _ in found]}"
+    for name, words in found:
+        places = places_of(re.split(r",\s*(?![^()]*\))", " ".join(words.split())))
+        if (places == sorted(places)) == (name in OTHER_ORDER):
+            yield f"{name}({words}) has the places {places}"
+
+
 # Where the packages for Rust and Python declare the calls of vlm.h, and a pattern of one there.
 BINDINGS = (("bindings/rust/vlm-sys/src/lib.rs", r"\bpub fn (vlm_\w+)\("),
             ("bindings/rust/src/raw.rs", r"\b(vlm_\w+)\("),
             ("bindings/python/vlm/_library.py", r'^    "(vlm_\w+)": \['))
-# They need no vlm_version: vlm_open compares the versions.
+# Rust needs no vlm_version, since it links one library, and Python calls it once, when it loads the library.
 UNBOUND = {"vlm_version"}
 
 
@@ -236,6 +268,40 @@ def bound_calls(_program):
         yield f"include/vlm.h has {sorted(there)}"
     for name, pattern in BINDINGS:
         yield from (f"{name} has no {it}" for it in sorted(there - set(re.findall(pattern, text_of(name), re.M))))
+
+
+# Where the packages for Rust and Python have numbers of the headers: the file, the head of the place, and what comes
+# before a name there. The numbers of condition values they compare with the library's names.
+NUMBERS = (*(("bindings/python/vlm/values.py", f"class {name}", "VLM_")
+             for name in ("Mode", "Queue", "AstKind", "Flags", "DequeueFlags")),
+           ("bindings/python/vlm/hub.py", "class StepKind", "VLM_STEP_"),
+           *(("bindings/rust/src/flags.rs", f"    {name} of", "VLM_") for name in ("EnqFlags", "DeqFlags")),
+           *(("bindings/rust/src/names.rs", f"pub enum {name}", "VLM_") for name in ("Mode", "Queue")),
+           ("bindings/rust/vlm-sys/src/lib.rs", "// The kinds of lines", "VLM_"))
+# Names there that the header has otherwise, by the heads.
+RENAMED = {head: {"CANCEL": "DEQ_CANCEL"} for head in ("class DequeueFlags", "    DeqFlags of")}
+
+
+def numbers_of(file, head):
+    """The numbers of a place by their names: those that are written there, or else 0, 1 and so on."""
+    place = re.search(rf"^{re.escape(head)}\b.*\n((?:(?:[ #/].*|pub const .*)?\n)+)", text_of(file), re.M)[1]
+    given = re.findall(r"^(?: +|pub const )(\w+)(?:: u32)? = (\d+);?$", place, re.M)
+    names = re.findall(r"^    (\w+),$", place, re.M)
+    return {name: int(number) for name, number in given} or {name.upper(): at for at, name in enumerate(names)}
+
+
+def numbers(_program):
+    """The packages for Rust and Python have the numbers of the headers' enumerations, and all of each."""
+    text = re.sub(r"/\*.*?\*/", "", "".join(it.read_text() for it in (TOP / "include").glob("*.h")), flags=re.S)
+    sets = [{name: int(number) for name, number in re.findall(r"(\w+) = (\d+)", it)}
+            for it in re.findall(r"\benum \{(.*?)\}", text, re.S)]
+    for file, head, before in NUMBERS:
+        found = {before + RENAMED.get(head, {}).get(name, name): number
+                 for name, number in numbers_of(file, head).items() if name != "NONE"}
+        wanted = next((it for it in sets if found.keys() <= it.keys()), {})
+        wanted = {name: number for name, number in wanted.items() if not name.startswith("VLM_NO_")}
+        if not found or found != wanted:
+            yield f"{file}: {head} has {found}, and the header {wanted}"
 
 
 # Where the version stands beside the file VERSION, and a pattern of it there.
@@ -319,14 +385,6 @@ def files(_program):
                 yield f"{page.name}: no {name}"
 
 
-def parts(_program):
-    """docs/TESTING.md names each part of the tests."""
-    listed = re.findall(r'^    "([\w-]+)": Part\(', text_of("tools/test"), re.M)
-    yield from (f"docs/TESTING.md has no {name}" for name in listed if f"`{name}`" not in text_of("docs/TESTING.md"))
-    if len(listed) < 9:
-        yield f"the parts are {listed}"
-
-
 def functions(_program):
     """Each function, definition and metric whose name a page gives is there: names of four words and more, such as
     those of tests."""
@@ -355,7 +413,7 @@ def proof_files(_program):
 
 def checks():
     return (functions, proof_files, short_readme, crate_table, public_names, laws, refusals, sizes, help_forms, flags,
-            calls, symbols, bound_calls, version, kit, links, files, parts)
+            calls, symbols, argument_order, bound_calls, numbers, version, kit, links, files)
 
 
 def blocks():
@@ -425,14 +483,14 @@ def shown_programs(_program):
 
 
 def shown_calls(_program):
-    """docs/THREADS.md names each call of the layer for threads, and docs/HUB.md each of a hub in C, and no other."""
-    for page, headers, word in (("THREADS.md", ("vlm_threads.h",), r"vlm_threads_\w+"),
-                                ("HUB.md", ("vlm_hub.h", "vlm_hub_wait.h"), r"vlm_(?:(?:hub|port|bell)_\w+|replay)")):
-        text = "".join(text_of(f"include/{name}") for name in headers)
-        there = set(re.findall(rf"^[\w *]*\b({word})\(", text, re.M))
-        named = set(re.findall(f"`({word})`", text_of(f"docs/{page}")))
-        if len(there) < 15 or there != named:
-            yield f"docs/{page} and the header differ in {sorted(there ^ named)}"
+    """Each name of the library that a page has is in a header, or in the table of what changed."""
+    there = set(re.findall(r"\bvlm_\w+", "".join(file.read_text() for file in (TOP / "include").glob("*.h*"))))
+    there |= {path.name for path in (TOP / "crates").iterdir()}
+    if len(there) < 150:
+        yield f"the headers name {sorted(there)}"
+    for page in PAGES:
+        text = re.sub(r"^\| Old call .*?\n\n", "", page.read_text(), flags=re.M | re.S)
+        yield from (f"{page.name}: no {it}" for it in sorted(set(re.findall(r"`(vlm_\w+)`", text)) - there))
 
 
 def stripped(text):
