@@ -82,6 +82,7 @@ uint32_t vlm_threads_open(const vlm_threads_options *options, vlm_threads **made
         return VLM_INSFMEM;
     layer->options = whole;
     layer->queue.descriptor = -1;
+    layer->processors = vlmt_processors();
     make_primitives(layer);
     if (!open_manager(layer) || !open_delivery(layer) || !start_watch(layer)) {
         vlm_threads_close(layer);

@@ -154,6 +154,10 @@ static void count_time(vlm_threads *layer, const struct request *request) {
         entry++;
     layer->counters.times[entry]++;
     layer->counters.microseconds += microseconds;
+    if (microseconds >= LOOK_MICROSECONDS)
+        layer->short_waits -= layer->short_waits > 0;
+    else
+        layer->short_waits += layer->short_waits < MOST_SHORT;
 }
 
 /* Takes a request out of the lists of queued ones. */

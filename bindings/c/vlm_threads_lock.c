@@ -7,8 +7,11 @@
  * No order is kept among threads that want the mutex. One that slept for it is woken when it is free, and tries again.
  * vlmt_let_others is for a thread that takes it many times in a row.
  *
+ * A thread that waits for the end of its request looks for a while too, where the last waits were short: a hand-over
+ * from one thread to another takes less than a microsecond then, and several where a sleeper is woken.
+ *
  * With VLM_THREADS_PLAIN_MUTEX all this is made of pthreads, for tools that know no other locks. */
-#define _DEFAULT_SOURCE
+#define _GNU_SOURCE
 
 #include "vlm_threads_parts.h"
 
@@ -18,6 +21,11 @@
  * twice, four times and so on, to this many times at once. Fewer looks disturb the owner less. It yields this often,
  * while the mutex does not change hands, before it sleeps. */
 enum { PAUSES = 2000, MOST_AT_ONCE = 512, YIELDS = 8 };
+
+/* A thread that looks at a condition pauses this often between two looks. One that has told such a thread of its grant
+ * pauses this often when it has let the mutex go, so that the other one takes it first. Else the two often change places
+ * at each pair of calls, and the memory of the lock moves from one processor to the other each time. */
+enum { LOOK_PAUSES = 4, TOLD_PAUSES = 50 };
 
 static void pause_often(int times) {
     while (times-- > 0)
@@ -39,6 +47,12 @@ static atomic_uint *begin_waiting(struct mutex *mutex) {
     atomic_uint *side = &mutex->waiting[atomic_load(&mutex->joined)];
     atomic_fetch_add(side, 1);
     return side;
+}
+
+uint32_t vlmt_processors(void) {
+    cpu_set_t set;
+    /* (a set that is too small says that there are very many) */
+    return sched_getaffinity(0, sizeof set, &set) ? CPU_SETSIZE : (uint32_t)CPU_COUNT(&set);
 }
 
 void vlmt_let_others(vlm_threads *layer) {
@@ -126,11 +140,15 @@ void vlmt_lock(vlm_threads *layer) {
 
 void vlmt_unlock(vlm_threads *layer) {
     const struct condition *woken = layer->woken;
+    bool has_told = layer->has_told;
     layer->woken = NULL;
+    layer->has_told = false;
     if (atomic_exchange_explicit(&layer->mutex.state, FREE, memory_order_release) == SLEPT_FOR)
         wake(&layer->mutex.state, 1);
     if (woken)
         wake(&woken->count, 1);
+    if (has_told)
+        pause_often(TOLD_PAUSES);
 }
 
 bool vlmt_sleep(vlm_threads *layer, struct condition *condition, const struct timespec *end) {
@@ -143,14 +161,29 @@ bool vlmt_sleep(vlm_threads *layer, struct condition *condition, const struct ti
     return !is_over;
 }
 
+void vlmt_look(vlm_threads *layer, struct condition *condition) {
+    unsigned count = atomic_load(&condition->count);
+    uint64_t end = now() + LOOK_MICROSECONDS * UINT64_C(1000);
+    condition->lookers++;
+    vlmt_unlock(layer);
+    do
+        pause_often(LOOK_PAUSES);
+    while (atomic_load_explicit(&condition->count, memory_order_relaxed) == count && now() < end);
+    vlmt_lock(layer);
+    condition->lookers--;
+}
+
 /* The call of the system comes when the mutex is free, so that the thread does not wake to find it taken. */
 void vlmt_wake(vlm_threads *layer, struct condition *condition) {
+    if (!condition->sleepers && !condition->lookers)
+        return;
+    atomic_fetch_add(&condition->count, 1);
+    layer->has_told |= condition->lookers != 0;
     if (!condition->sleepers)
         return;
     if (layer->woken)
         wake(&layer->woken->count, 1);
     layer->woken = condition;
-    atomic_fetch_add(&condition->count, 1);
 }
 
 void vlmt_wake_all(struct condition *condition) {
@@ -183,6 +216,8 @@ bool vlmt_sleep(vlm_threads *layer, struct condition *condition, const struct ti
         return !pthread_cond_timedwait(&condition->plain, &layer->mutex.plain, end);
     return !pthread_cond_wait(&condition->plain, &layer->mutex.plain);
 }
+
+void vlmt_look(vlm_threads *layer, struct condition *condition) { (void)layer, (void)condition; }
 
 void vlmt_wake(vlm_threads *layer, struct condition *condition) {
     (void)layer;

@@ -38,13 +38,16 @@ enum { RELEASED = 3 };
 
 static const uint64_t NANOSECONDS = 1000000000;
 
+/* A wait that is shorter than this is short. So long a thread looks whether its request has ended, before it sleeps. */
+enum { LOOK_MICROSECONDS = 50, MOST_SHORT = 16 };
+
 /* What threads sleep on, without the mutex, until something has come. */
 struct condition {
 #ifdef VLM_THREADS_PLAIN_MUTEX
     pthread_cond_t plain;
 #else
-    atomic_uint count; /* of wakes */
-    uint32_t sleepers; /* threads that sleep on it, or are on their way to the mutex */
+    atomic_uint count;          /* of wakes */
+    uint32_t sleepers, lookers; /* threads that sleep on it or look at it, or are on their way to the mutex */
 #endif
 };
 
@@ -190,6 +193,7 @@ struct vlm_threads {
     struct condition pending; /* the dispatcher sleeps: an event is pending, or it is to end */
     struct condition watched; /* the watchdog sleeps: it is to end */
     struct condition *woken;  /* a thread is to be woken that sleeps on it, after the mutex is let go; or null */
+    bool has_told;            /* a thread that looks is told, since the mutex was taken */
     struct condition calm;    /* a close or a settle sleeps: a routine or a sleep has ended */
     vlm handle;
     uint32_t departed; /* bit n: node n has departed */
@@ -216,7 +220,9 @@ struct vlm_threads {
     pthread_t dispatcher, watchdog;
     bool has_dispatcher, has_watchdog, is_closing;
     vlm_threads_options options;
-    uint32_t sleepers; /* threads that sleep in a call other than a close */
+    uint32_t sleepers;    /* threads that sleep in a call other than a close */
+    uint32_t processors;  /* that the threads of the program may use */
+    uint32_t short_waits; /* of the last ones: one more with each, one less with each long one, 0 to MOST_SHORT */
     vlm_threads_counters counters;
 };
 
@@ -226,14 +232,19 @@ void vlmt_free_mutex(struct mutex *mutex);
 void vlmt_lock(vlm_threads *layer);
 void vlmt_unlock(vlm_threads *layer);
 
+/* How many processors the program's threads may use. */
+uint32_t vlmt_processors(void);
+
 /* Lets the mutex go, and takes it again when each thread that was waiting for it has had it. */
 void vlmt_let_others(vlm_threads *layer);
 
 /* Conditions. A thread sleeps without the mutex until it is woken, or for nothing, or until a moment of the monotonic
- * clock, if `end` is not null: then the answer is false. */
+ * clock, if `end` is not null: then the answer is false. A thread that looks returns when it would be woken, or after
+ * LOOK_MICROSECONDS. */
 void vlmt_make_condition(struct condition *condition);
 void vlmt_free_condition(struct condition *condition);
 bool vlmt_sleep(vlm_threads *layer, struct condition *condition, const struct timespec *end);
+void vlmt_look(vlm_threads *layer, struct condition *condition);
 void vlmt_wake(vlm_threads *layer, struct condition *condition);
 void vlmt_wake_all(struct condition *condition);
 

@@ -157,7 +157,14 @@ static void cancel_late(vlm_threads *layer, struct request *request) {
     cancel(layer, request->process->entry.id, request->lkid);
 }
 
+/* Whether most of the last waits were short, and each thread that waits may have a processor, and one works. */
+static bool is_soon_over(const vlm_threads *layer) {
+    return layer->short_waits > MOST_SHORT / 2 && layer->counters.waiting < layer->processors;
+}
+
 static void sleep_until_ended(vlm_threads *layer, struct waiter *waiter) {
+    if (is_soon_over(layer))
+        vlmt_look(layer, &waiter->ended);
     uint32_t longest = waiter->asked->words.milliseconds;
     struct timespec deadline = moment_at(waiter->request->since + milliseconds(longest));
     while (!waiter->status) {
