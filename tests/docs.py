@@ -50,8 +50,9 @@ def sources(pattern="src"):
 
 
 def laws(_program):
-    """docs/LAWS.md names each public law, and no other."""
-    there = {name for file in sources() for name in re.findall(r"\bpub fn (law_\w+)", file.read_text())}
+    """docs/LAWS.md names each law, and no other."""
+    law = r"\bpub(?:\(crate\))? fn (law_\w+)"
+    there = {name for file in sources() for name in re.findall(law, file.read_text())}
     named = set(re.findall(r"\blaw_\w+", text_of("docs/LAWS.md")))
     yield from (f"{name} is not in docs/LAWS.md" for name in sorted(there - named))
     yield from (f"docs/LAWS.md names {name}, which is not there" for name in sorted(named - there))
@@ -400,15 +401,15 @@ def functions(_program):
 
 
 def proof_files(_program):
-    """What is wrong with the table of docs/PROVING.md: it has each law with the files that its answer cites."""
-    found = dict(re.findall(r"^\| `(law_\w+)` \| (.*) \|$", text_of("docs/PROVING.md"), re.M))
+    """What is wrong with the table of docs/LAWS.md: it has each law with the files that its answer cites."""
+    found = dict(re.findall(r"^\| `(law_\w+)` \| (.*) \|$", text_of("docs/LAWS.md"), re.M))
     for file in sorted((TOP / "crates").glob("*/proofs/**/law_*/Answers.antt")):
         crate, law = file.relative_to(TOP / "crates").parts[0], file.parent.name
         folder = "" if crate == "vlm_model" else f"{crate}/proofs/"
         cited = sorted(set(re.findall(rf"^use Rattle\.{crate}\.proofs\.(\w+)\.{{", file.read_text(), re.M)))
         wanted = ", ".join(f"`{folder}{it}`" for it in cited)
         yield from difference((law, found.pop(law, None)), (law, wanted))
-    yield from (f"docs/PROVING.md: no law {law}" for law in found)
+    yield from (f"docs/LAWS.md: no law {law}" for law in found)
 
 
 def checks():
