@@ -9,7 +9,7 @@
  *     vlm_hub_service service = {.size = sizeof service, .hub = &hub, .bell = &bell, .bells = bells, .bell_count = 2};
  *     vlm_hub_run(&service);                            the hub's thread
  *
- *     vlm_port_posted(vlm_port_enq(&port, &request, name, name_len), &bell);      the thread of node 1
+ *     vlm_port_posted(&bell, vlm_port_enq(&port, &request, name, name_len));      the thread of node 1
  *     while (vlm_port_next(&port, &bells[0], &bell, -1, &item) == VLM_NORMAL) ...
  *
  *     vlm_hub_stop(&service);                           any thread
@@ -85,9 +85,9 @@ typedef struct vlm_block_read {
  * first. Answers as vlm_hub_turn. */
 uint32_t vlm_hub_turn_ringing(vlm_hub *hub, vlm_bell *bells, size_t count, size_t *made);
 
-/* Looks up the status blocks that threads of ports have asked for, and rings the bells of their nodes. reads and bells
+/* Looks up the status blocks that threads of ports have asked for, and rings the bells of their nodes. bells and reads
  * have those of `count` nodes, node 1 first. Answers how many there were. */
-size_t vlm_hub_answer_reads(vlm_hub *hub, vlm_block_read *reads, vlm_bell *bells, size_t count);
+size_t vlm_hub_answer_reads(vlm_hub *hub, vlm_bell *bells, size_t count, vlm_block_read *reads);
 
 /* A hub that a thread serves. */
 typedef struct vlm_hub_service {
@@ -130,7 +130,7 @@ uint32_t vlm_hub_tell_lost(vlm_hub_service *service, uint32_t node);
 /* The thread of a port. */
 
 /* Rings the hub's bell if a post succeeded. Its answer is `status`, the post's. */
-uint32_t vlm_port_posted(uint32_t status, vlm_bell *hub_bell);
+uint32_t vlm_port_posted(vlm_bell *hub_bell, uint32_t status);
 
 /* Takes the next item, and waits for it on the bell of its node: for so many milliseconds, or with -1 for ever. If it
  * took items and finds no more, it rings the hub's bell, since the hub may wait for their places. A thread that calls

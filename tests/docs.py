@@ -219,9 +219,6 @@ def symbols(_program):
 
 # The types of handles. One that a call writes, after its own, is an answer; the bells are those of the handle.
 HANDLES = ("vlm", "vlm_hub", "vlm_port", "vlm_threads", "vlm_client", "vlm_hub_service", "vlm_bell")
-# Calls with another order, with the reason.
-OTHER_ORDER = {"vlm_port_posted": "it is wrapped around a post, whose answer comes first",
-               "vlm_hub_answer_reads": "one count counts reads and bells"}
 
 
 def places_of(arguments):
@@ -250,7 +247,7 @@ def argument_order(_program):
         yield f"the calls are {[name for name, _ in found]}"
     for name, words in found:
         places = places_of(re.split(r",\s*(?![^()]*\))", " ".join(words.split())))
-        if (places == sorted(places)) == (name in OTHER_ORDER):
+        if places != sorted(places):
             yield f"{name}({words}) has the places {places}"
 
 

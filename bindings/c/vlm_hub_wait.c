@@ -173,7 +173,7 @@ static void answer_read(vlm_hub *hub, vlm_block_read *read) {
     __atomic_store_n(&read->state, ANSWERED, __ATOMIC_SEQ_CST);
 }
 
-size_t vlm_hub_answer_reads(vlm_hub *hub, vlm_block_read *reads, vlm_bell *bells, size_t count) {
+size_t vlm_hub_answer_reads(vlm_hub *hub, vlm_bell *bells, size_t count, vlm_block_read *reads) {
     size_t answered = 0;
     for (size_t i = 0; i < count && i < VLM_MAX_NODES; i++) {
         if (state_of(&reads[i]) != ASKED)
@@ -194,7 +194,7 @@ static bool is_well_formed(const vlm_hub_service *service) {
 static size_t answer_reads(vlm_hub_service *service) {
     if (service->size == FIRST_SERVICE || !service->reads)
         return 0;
-    return vlm_hub_answer_reads(service->hub, service->reads, service->bells, service->bell_count);
+    return vlm_hub_answer_reads(service->hub, service->bells, service->bell_count, service->reads);
 }
 
 static uint32_t cut(vlm_hub_service *service) {
@@ -269,7 +269,7 @@ uint32_t vlm_hub_tell_lost(vlm_hub_service *service, uint32_t node) {
 
 /* The thread of a port. */
 
-uint32_t vlm_port_posted(uint32_t status, vlm_bell *hub_bell) {
+uint32_t vlm_port_posted(vlm_bell *hub_bell, uint32_t status) {
     if (status == VLM_NORMAL)
         vlm_bell_ring(hub_bell);
     return status;

@@ -21,15 +21,15 @@ static void *work(void *given) {
     uint32_t node = *(uint32_t *)given;
     vlm_port *port = &ports[node - 1];
     vlm_declaration declaration = {.size = sizeof declaration, .node = node, .quota = 9, .blocks = 1};
-    vlm_port_posted(vlm_port_declare(port, &declaration), &hub_bell);
+    vlm_port_posted(&hub_bell, vlm_port_declare(port, &declaration));
     vlm_request request = {.size = sizeof request, .pid = next(node), .mode = VLM_EX, .block = 1, .has_ast = 1};
     vlm_dequeue dequeue = {.size = sizeof dequeue, .pid = request.pid};
     for (int i = 0; i < 1000; i++) {
-        vlm_port_posted(vlm_port_enq(port, &request, (const uint8_t *)"A", 1), &hub_bell);
+        vlm_port_posted(&hub_bell, vlm_port_enq(port, &request, (const uint8_t *)"A", 1));
         dequeue.lock = next(node); /* the answer: there is a lock, and perhaps it waits */
         next(node);                /* its completion AST: the lock is granted */
         counted = counted + 1;
-        vlm_port_posted(vlm_port_deq(port, &dequeue), &hub_bell);
+        vlm_port_posted(&hub_bell, vlm_port_deq(port, &dequeue));
         next(node);
     }
     return NULL;

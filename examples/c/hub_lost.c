@@ -37,9 +37,9 @@ static uint32_t next(struct worker *worker, uint32_t kind) {
 static void ask(struct worker *worker) {
     vlm_declaration declaration = {.size = sizeof declaration, .node = worker->node, .quota = 1, .blocks = 1};
     worker->request = (vlm_request){.size = sizeof worker->request, .mode = VLM_EX, .block = 1, .has_ast = 1};
-    vlm_port_posted(vlm_port_declare(&worker->port, &declaration), &hub_bell);
+    vlm_port_posted(&hub_bell, vlm_port_declare(&worker->port, &declaration));
     worker->request.pid = next(worker, VLM_ANSWER);
-    vlm_port_posted(vlm_port_enq(&worker->port, &worker->request, (const uint8_t *)"A", 1), &hub_bell);
+    vlm_port_posted(&hub_bell, vlm_port_enq(&worker->port, &worker->request, (const uint8_t *)"A", 1));
     worker->lock = next(worker, VLM_ANSWER);
 }
 
@@ -57,7 +57,7 @@ static void *work(void *given) {
     pthread_barrier_wait(&all_wait);
     next(worker, VLM_AST);
     vlm_dequeue dequeue = {.size = sizeof dequeue, .pid = worker->request.pid, .lock = worker->lock};
-    vlm_port_posted(vlm_port_deq(&worker->port, &dequeue), &hub_bell);
+    vlm_port_posted(&hub_bell, vlm_port_deq(&worker->port, &dequeue));
     next(worker, VLM_ANSWER);
     return NULL;
 }

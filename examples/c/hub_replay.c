@@ -43,13 +43,13 @@ static uint32_t answer(struct worker *worker) {
 static uint32_t ask(struct worker *worker, uint32_t mode, const char *name) {
     vlm_request request = {
         .size = sizeof request, .pid = worker->pid, .mode = mode, .flags = VLM_VALBLK, .block = 1, .has_ast = 1};
-    vlm_port_posted(vlm_port_enq(&worker->port, &request, (const uint8_t *)name, strlen(name)), &hub_bell);
+    vlm_port_posted(&hub_bell, vlm_port_enq(&worker->port, &request, (const uint8_t *)name, strlen(name)));
     return answer(worker);
 }
 
 static void give_up(struct worker *worker, uint32_t lock, uint8_t value) {
     vlm_dequeue dequeue = {.size = sizeof dequeue, .pid = worker->pid, .lock = lock, .has_value = 1, .value = {value}};
-    vlm_port_posted(vlm_port_deq(&worker->port, &dequeue), &hub_bell);
+    vlm_port_posted(&hub_bell, vlm_port_deq(&worker->port, &dequeue));
     answer(worker);
 }
 
@@ -58,7 +58,7 @@ static void give_up(struct worker *worker, uint32_t lock, uint8_t value) {
 static void *work(void *given) {
     struct worker *worker = given;
     vlm_declaration declaration = {.size = sizeof declaration, .node = worker->node, .quota = 9, .blocks = 1};
-    vlm_port_posted(vlm_port_declare(&worker->port, &declaration), &hub_bell);
+    vlm_port_posted(&hub_bell, vlm_port_declare(&worker->port, &declaration));
     worker->pid = answer(worker);
     ask(worker, VLM_CR, "SHARED");
     for (int round = 0; round < ROUNDS; round++)

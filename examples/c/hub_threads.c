@@ -42,7 +42,7 @@ static vlm_item next(struct worker *worker, uint32_t kind) {
 
 static void declare(struct worker *worker) {
     vlm_declaration declaration = {.size = sizeof declaration, .node = worker->node, .quota = 9, .blocks = 1};
-    vlm_port_posted(vlm_port_declare(&worker->port, &declaration), &hub_bell);
+    vlm_port_posted(&hub_bell, vlm_port_declare(&worker->port, &declaration));
     worker->pid = next(worker, VLM_ANSWER).number;
 }
 
@@ -51,11 +51,11 @@ static void count(struct worker *worker, int resource) {
     static const uint8_t names[RESOURCES] = {'A', 'B', 'C'};
     vlm_request request = {.size = sizeof request, .pid = worker->pid, .mode = VLM_EX, .block = 1, .has_ast = 1};
     vlm_dequeue dequeue = {.size = sizeof dequeue, .pid = worker->pid};
-    vlm_port_posted(vlm_port_enq(&worker->port, &request, &names[resource], 1), &hub_bell);
+    vlm_port_posted(&hub_bell, vlm_port_enq(&worker->port, &request, &names[resource], 1));
     dequeue.lock = next(worker, VLM_ANSWER).number;
     next(worker, VLM_AST);
     counted[resource] = counted[resource] + 1;
-    vlm_port_posted(vlm_port_deq(&worker->port, &dequeue), &hub_bell);
+    vlm_port_posted(&hub_bell, vlm_port_deq(&worker->port, &dequeue));
     next(worker, VLM_ANSWER);
 }
 

@@ -34,7 +34,7 @@ static vlm_item next(struct worker *worker, uint32_t kind) {
 
 /* A step was posted: the number of its answer. */
 static uint32_t answered(struct worker *worker, uint32_t posted) {
-    worker->wrong += vlm_port_posted(posted, &hub_bell) != VLM_NORMAL;
+    worker->wrong += vlm_port_posted(&hub_bell, posted) != VLM_NORMAL;
     return next(worker, VLM_ANSWER).number;
 }
 

@@ -22,7 +22,7 @@ static vlm_item next_item(uint32_t node) {
 
 /* A post was made: its answer. */
 static void answered_at(int line, uint32_t node, uint32_t posted, uint32_t status) {
-    expect_at(line, vlm_port_posted(posted, &hub_bell), VLM_NORMAL);
+    expect_at(line, vlm_port_posted(&hub_bell, posted), VLM_NORMAL);
     vlm_item item = next_item(node);
     hold_at(line, item.kind == VLM_ANSWER, "an answer");
     expect_at(line, item.status, status);
@@ -137,23 +137,23 @@ static void by_hand(void) {
     vlm_declaration declaration = declaration_of(2);
     EXPECT(vlm_port_declare(&ports[1], &declaration), VLM_NORMAL);
     turns(&hub);
-    HOLD(vlm_hub_answer_reads(&hub, reads, bells, 2) == 0);
+    HOLD(vlm_hub_answer_reads(&hub, bells, 2, reads) == 0);
     reads[1].pid = first_of(2);
     reads[1].block = 1;
     EXPECT(read_within(2, 0), VLM_TIMEOUT);
     EXPECT(vlm_bell_wait(&hub_bell, 0), VLM_NORMAL);
     EXPECT(read_within(2, 10), VLM_TIMEOUT);
     EXPECT(vlm_bell_wait(&hub_bell, 0), VLM_TIMEOUT); /* it is asked for once */
-    HOLD(vlm_hub_answer_reads(&hub, reads, bells, 1) == 0);
-    HOLD(vlm_hub_answer_reads(&hub, reads, bells, 2) == 1);
-    HOLD(vlm_hub_answer_reads(&hub, reads, bells, 2) == 0);
+    HOLD(vlm_hub_answer_reads(&hub, bells, 1, reads) == 0);
+    HOLD(vlm_hub_answer_reads(&hub, bells, 2, reads) == 1);
+    HOLD(vlm_hub_answer_reads(&hub, bells, 2, reads) == 0);
     EXPECT(vlm_bell_wait(&bells[1], 0), VLM_NORMAL);
     EXPECT(read_within(2, 0), VLM_NORMAL);
     EXPECT(next(2, 0, &item), VLM_NORMAL);
     HOLD(item.kind == VLM_ANSWER && item.number == first_of(2));
     vlm_hub_close(&hub);
     EXPECT(read_within(2, 0), VLM_TIMEOUT);
-    HOLD(vlm_hub_answer_reads(&hub, reads, bells, 2) == 1);
+    HOLD(vlm_hub_answer_reads(&hub, bells, 2, reads) == 1);
     EXPECT(read_within(2, 0), VLM_BADPARAM);
     close_all();
 }

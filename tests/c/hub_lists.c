@@ -135,7 +135,7 @@ static void *work(void *given) {
     struct worker *worker = given;
     while (worker->posts < STEPS) {
         uint64_t random = worker->random;
-        uint32_t status = vlm_port_posted(any_step(worker), &hub_bell);
+        uint32_t status = vlm_port_posted(&hub_bell, any_step(worker));
         HOLD(status == VLM_NORMAL || status == VLM_FULL);
         worker->posts += status == VLM_NORMAL;
         if (status == VLM_FULL) {
@@ -145,7 +145,7 @@ static void *work(void *given) {
             take(worker, 0);
         }
     }
-    while (vlm_port_posted(vlm_port_bye(&worker->port), &hub_bell) == VLM_FULL)
+    while (vlm_port_posted(&hub_bell, vlm_port_bye(&worker->port)) == VLM_FULL)
         take(worker, -1);
     worker->posts++;
     while (worker->answers < worker->posts)

@@ -63,7 +63,7 @@ static inline uint32_t next(uint32_t node, int milliseconds, vlm_item *item) {
 /* Posts a search, and waits for its answer. */
 static inline void search(uint32_t node) {
     vlm_item item;
-    EXPECT(vlm_port_posted(vlm_port_search(&ports[node - 1]), &hub_bell), VLM_NORMAL);
+    EXPECT(vlm_port_posted(&hub_bell, vlm_port_search(&ports[node - 1])), VLM_NORMAL);
     EXPECT(next(node, LOST, &item), VLM_NORMAL);
     HOLD(item.kind == VLM_ANSWER && item.status == VLM_NORMAL);
 }

@@ -214,7 +214,7 @@ static void full_items(void) {
     open_all();
     pthread_t server = started(serve, NULL);
     for (int64_t end = milliseconds_now() + LOST; posted < 2 * PLACES && milliseconds_now() < end;)
-        posted += vlm_port_posted(vlm_port_search(&ports[0]), &hub_bell) == VLM_NORMAL;
+        posted += vlm_port_posted(&hub_bell, vlm_port_search(&ports[0])) == VLM_NORMAL;
     HOLD(posted == 2 * PLACES);
     search(2);
     while (answered < posted && next(1, LOST, &item) == VLM_NORMAL)
@@ -233,7 +233,7 @@ static void closed_port(void) {
     open_all();
     pthread_t server = started(serve, NULL);
     for (int i = 0; i < PLACES; i++)
-        EXPECT(vlm_port_posted(vlm_port_search(&ports[0]), &hub_bell), VLM_NORMAL);
+        EXPECT(vlm_port_posted(&hub_bell, vlm_port_search(&ports[0])), VLM_NORMAL);
     vlm_port_close(&ports[0]);
     for (int i = 0; i < 2 * PLACES; i++)
         search(2);
@@ -279,10 +279,10 @@ static void turns_ring(void) {
 static void posts_ring(void) {
     vlm_item item = {.size = 63};
     open_all();
-    EXPECT(vlm_port_posted(VLM_FULL, &hub_bell), VLM_FULL);
-    EXPECT(vlm_port_posted(VLM_BADPARAM, &hub_bell), VLM_BADPARAM);
+    EXPECT(vlm_port_posted(&hub_bell, VLM_FULL), VLM_FULL);
+    EXPECT(vlm_port_posted(&hub_bell, VLM_BADPARAM), VLM_BADPARAM);
     EXPECT(vlm_bell_wait(&hub_bell, 0), VLM_TIMEOUT);
-    EXPECT(vlm_port_posted(vlm_port_search(&ports[0]), &hub_bell), VLM_NORMAL);
+    EXPECT(vlm_port_posted(&hub_bell, vlm_port_search(&ports[0])), VLM_NORMAL);
     EXPECT(vlm_bell_wait(&hub_bell, 0), VLM_NORMAL);
     EXPECT(vlm_port_next(&ports[0], &bells[0], &hub_bell, -1, &item), VLM_BADPARAM);
     turns(&hub);
