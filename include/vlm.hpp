@@ -272,8 +272,7 @@ class Manager {
     static vlm_threads_options options_of(std::chrono::milliseconds search) {
         if (search.count() < 0 || search.count() > std::numeric_limits<std::uint32_t>::max())
             throw Error(VLM_BADPARAM);
-        vlm_threads_options options{};
-        options.size = sizeof options;
+        vlm_threads_options options = VLM_THREADS_OPTIONS;
         options.search_milliseconds = static_cast<std::uint32_t>(search.count());
         return options;
     }

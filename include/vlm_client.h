@@ -2,7 +2,7 @@
  * processes by other names of its calls. docs/SERVICE.md teaches the service. The layer is not proved. It uses POSIX
  * threads and Linux's eventfd.
  *
- *     vlm_client_options options = {.size = sizeof options};
+ *     vlm_client_options options = VLM_CLIENT_OPTIONS;
  *     vlm_client *client;
  *     uint32_t pid;
  *     vlm_client_open(&options, &client);
@@ -47,14 +47,14 @@ typedef struct vlm_client vlm_client;
 
 typedef struct vlm_client_options {
     uint32_t size;
+    uint32_t version;               /* VLM_VERSION */
     uint32_t delivery;              /* VLM_THREADS_BY_LAYER or VLM_THREADS_BY_PROGRAM */
+    uint32_t lease_seconds;         /* with addresses of TCP: 2 to 600; 0 means 10 */
     const char *socket;             /* null: that of VLM_SOCKET in the environment, or /run/vlm/lock.sock. A path, or
                                        addresses of replicas as in tcp:HOST:PORT,HOST:PORT or, with TLS,
                                        tls:HOST:PORT,HOST:PORT */
     void (*on_lost)(void *context); /* called as a routine after the locks are lost; or null */
     void *lost_context;
-    uint32_t lease_seconds; /* with addresses of TCP: 2 to 600; 0 means 10 */
-    uint32_t reserved[7];
     /* With addresses as in tls:HOST:PORT, files in PEM's form: the certificate that the client shows, its key, and the
      * authority that has signed those of the replicas. Null: the file that VLM_TLS_CERTIFICATE, VLM_TLS_KEY or
      * VLM_TLS_AUTHORITY names in the environment. They are read again for each connection. A program that has other
@@ -65,6 +65,9 @@ typedef struct vlm_client_options {
     char *reason;        /* gets a text that says why vlm_client_open answers VLM_LOST; or null */
     uint64_t reason_len; /* bytes of it, with a zero at the end */
 } vlm_client_options;
+/* clang-format off */
+#define VLM_CLIENT_OPTIONS { sizeof(vlm_client_options), VLM_VERSION, 0, 0, 0, 0, 0, 0, 0, 0, 0, 0 }
+/* clang-format on */
 
 /* Connects and begins a session. Starts a thread that reads, and one that runs routines (VLM_THREADS_BY_LAYER).
  * *client is null unless the answer is NORMAL. Addresses of TCP are tried in turn, each once, and names of hosts are
@@ -73,7 +76,8 @@ typedef struct vlm_client_options {
  * replica's: sessions there have leases, which a client keeps at addresses of TCP alone. With TLS also: a file can't be
  * read, the certificate of the replica is not of the host that the address names, or there is no libvlm-tls.so.1, by
  * which this library calls OpenSSL.
- * INSFMEM: memory, a thread or an eventfd was refused. BADPARAM: the options are malformed. */
+ * INSFMEM: memory, a thread or an eventfd was refused.
+ * BADPARAM: the options are malformed or of another version. */
 uint32_t vlm_client_open(const vlm_client_options *options, vlm_client **client);
 
 /* Begins a new session after VLM_LOST, without processes. A call of another thread for the lost session answers
@@ -124,7 +128,7 @@ uint32_t vlm_client_fd(vlm_client *client, int *descriptor);
 uint32_t vlm_client_dispatch(vlm_client *client, uint32_t *delivered);
 uint32_t vlm_client_settle(vlm_client *client);
 
-VLM_ASSERT(sizeof(struct vlm_client_options) == 104);
+VLM_ASSERT(sizeof(struct vlm_client_options) == 80);
 
 #ifdef __cplusplus
 }

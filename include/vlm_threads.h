@@ -3,9 +3,10 @@
  * The steps are vlm.h's, and proved. The layer itself is plain C11 over pthreads and Linux's eventfd and futex. It is
  * tested, and not proved.
  *
- *     vlm_threads_options options = {.size = sizeof options, .search_milliseconds = 100};
+ *     vlm_threads_options options = VLM_THREADS_OPTIONS;
  *     vlm_threads *layer;
  *     uint32_t pid;
+ *     options.search_milliseconds = 100;
  *     vlm_threads_open(&options, &layer);
  *     vlm_threads_declaration declaration = {.size = sizeof declaration, .node = 1, .quota = 9, .requests = 1};
  *     vlm_threads_declare(layer, &declaration, &pid);
@@ -24,7 +25,8 @@
  * ends of structs. So a struct may be shorter than the library's: the members that it lacks count as 0, and are not
  * written. These are always there: up to `keys` in options, `tied` in a declaration, `status` in a request, `wide` in a
  * dequeue, `most_waiting` in counters, `waits` in a deadlock, all of a wait. A struct without them, or longer than the
- * library's, is answered VLM_BADPARAM.
+ * library's, is answered VLM_BADPARAM. vlm_threads_open compares the version of this header, which VLM_THREADS_OPTIONS
+ * has, with that of the library, as vlm_open does.
  *
  * Threads. Any thread may make any call for any process, at any time between opening and closing; so may a routine,
  * except where a comment says otherwise. A call holds the layer's mutex while it works, and gives it up while it
@@ -48,8 +50,7 @@
  * - A routine or a reader returns. It does not leave by longjmp, a C++ exception or pthread_exit.
  * - A reader of vlm_threads_look makes only the readings of vlm.h, and no call of this header except vlm_threads_label.
  * - No call is made from a signal handler, or in the forked child of a process with threads.
- * - malloc, calloc, realloc and free belong to one allocator. The versions of the library and of both headers have the
- *   same first two numbers.
+ * - malloc, calloc, realloc and free belong to one allocator. This header and vlm.h are of one version.
  */
 #ifndef VLM_THREADS_H
 #define VLM_THREADS_H
@@ -107,6 +108,7 @@ enum {
 
 typedef struct vlm_threads_options {
     uint32_t size;
+    uint32_t version;             /* VLM_VERSION */
     uint32_t delivery;            /* VLM_THREADS_BY_LAYER or VLM_THREADS_BY_PROGRAM */
     uint32_t search_milliseconds; /* the time between two searches for deadlocks, or 0: the layer never searches */
     uint32_t has_keys;            /* 1: names are hashed by keys; 0: by fixed keys */
@@ -121,12 +123,15 @@ typedef struct vlm_threads_options {
     vlm_threads_wait_hook long_wait;
     void *long_wait_context;
 } vlm_threads_options;
+/* clang-format off */
+#define VLM_THREADS_OPTIONS { sizeof(vlm_threads_options), VLM_VERSION, 0, 0, 0, { 0 }, 0, 0, 0, 0, 0, 0 }
+/* clang-format on */
 
 /* Makes a layer with a lock manager. Starts a thread that runs routines (VLM_THREADS_BY_LAYER), and one that searches
  * and tells of long waits (search_milliseconds or long_milliseconds not 0). No signal is delivered to them. *layer is
  * null unless the answer is NORMAL.
  * INSFMEM: memory, a thread or an eventfd was refused.
- * BADPARAM: the options are malformed; also long_milliseconds without `long_wait`. */
+ * BADPARAM: the options are malformed or of another version; also long_milliseconds without `long_wait`. */
 uint32_t vlm_threads_open(const vlm_threads_options *options, vlm_threads **layer);
 
 /* Ends all processes, as if all nodes departed. A call that waits answers DEPARTED, and so does each later call for a
@@ -407,7 +412,7 @@ uint32_t vlm_threads_print_deadlock(const vlm_threads_deadlock *deadlock, FILE *
 
 VLM_ASSERT(sizeof(struct vlm_threads_wait) == 236);
 VLM_ASSERT(sizeof(struct vlm_threads_deadlock) == 3792);
-VLM_ASSERT(sizeof(struct vlm_threads_options) == 72);
+VLM_ASSERT(sizeof(struct vlm_threads_options) == 80);
 VLM_ASSERT(sizeof(struct vlm_threads_declaration) == 64);
 VLM_ASSERT(sizeof(struct vlm_threads_event) == 92);
 VLM_ASSERT(sizeof(struct vlm_threads_request) == 80);

@@ -515,6 +515,10 @@ def older_header(header="vlm_threads"):
         if not count:
             raise LookupError(f"{first} of {header}_{name}")
         text = re.sub(rf"VLM_ASSERT\(sizeof\(struct {header}_{name}\).*", "", text)
+    text, count = re.subn(rf"(#define {header.upper()}_OPTIONS ).*",
+                          rf"\1{{ .size = sizeof({header}_options), .version = VLM_VERSION }}", text)
+    if count != 1:
+        raise LookupError(f"the usual options of {header}")
     (folder / f"{header}.h").write_text(text)
     return folder
 
@@ -563,15 +567,26 @@ def over_newer_library(compiler, _program):
 # What the library answers to headers of other versions.
 OPENS = """#include <stdio.h>
 #include <vlm.h>
+#include <vlm_client.h>
 #include <vlm_hub.h>
+static void tell(uint32_t status) { printf(" %s", vlm_condition_name(status)); }
 int main(void) {
     vlm handle = VLM_CLOSED;
     vlm_hub hub = VLM_HUB_CLOSED;
     vlm_options options = VLM_OPTIONS;
-    printf("%s ", vlm_condition_name(vlm_open(&handle, &options)));
-    printf("%s\\n", vlm_condition_name(vlm_hub_open(&hub, 1, &options)));
+    vlm_threads_options threads_options = VLM_THREADS_OPTIONS;
+    vlm_client_options client_options = VLM_CLIENT_OPTIONS;
+    vlm_threads *layer;
+    vlm_client *client;
+    client_options.socket = "/nowhere";
+    tell(vlm_open(&handle, &options));
+    tell(vlm_hub_open(&hub, 1, &options));
+    tell(vlm_threads_open(&threads_options, &layer));
+    tell(vlm_client_open(&client_options, &client));
     vlm_close(&handle);
     vlm_hub_close(&hub);
+    vlm_threads_close(layer);
+    vlm_client_close(client);
     return 0;
 }
 """
@@ -584,10 +599,10 @@ def other_versions(compiler, _program):
     (folder / "opens.c").write_text(OPENS)
     header, own = (TOP / "include" / "vlm.h").read_text(), re.compile(r"(?<=#define VLM_VERSION )0x000200")
     shared = [f"-L{prefix()}/lib", "-lvlm"]
-    for number, answer in ((0x200, "NORMAL"), (0x2ff, "NORMAL"), (0x100, "BADPARAM"), (0x300, "BADPARAM"),
-                           (0x10200, "BADPARAM")):
+    fits, refused = " SS$_NORMAL SS$_NORMAL SS$_NORMAL LOST", " SS$_BADPARAM" * 4
+    for number, answers in ((0x200, fits), (0x2ff, fits), (0x100, refused), (0x300, refused), (0x10200, refused)):
         (folder / "vlm.h").write_text(own.sub(f"{number:#08x}", header))
-        (folder / "opens.out").write_text(f"SS$_{answer} SS$_{answer}\n")
+        (folder / "opens.out").write_text(answers)
         yield from ran(compiler, "-std=c11", *STRICT, f"-I{folder}", package()[0], folder / "opens.c", *shared, "-o",
                        folder / "opens")
         yield from printed(folder / "opens.c", folder / "opens",

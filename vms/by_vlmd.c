@@ -14,7 +14,8 @@ static vlm_client *client;
 static uint32_t own_pid;
 
 static uint32_t open_client(const char *address, uint32_t quota) {
-    vlm_client_options options = {.size = sizeof options, .socket = address, .on_lost = vms_lost};
+    vlm_client_options options = {
+        .size = sizeof options, .version = VLM_VERSION, .socket = address, .on_lost = vms_lost};
     vlm_threads_declaration declaration = {.size = sizeof declaration, .quota = quota, .requests = MOST_REQUESTS};
     uint32_t status = vlm_client_open(&options, &client);
     if (status == VLM_NORMAL)

@@ -40,8 +40,10 @@ static uint32_t period(uint32_t wait) {
 static uint32_t open_layer(const char *address, uint32_t quota) {
     (void)address;
     uint32_t wait = deadlock_wait();
-    vlm_threads_options options = {
-        .size = sizeof options, .search_milliseconds = wait != 0 ? period(wait) : 0, .victim_milliseconds = wait};
+    vlm_threads_options options = {.size = sizeof options,
+                                   .version = VLM_VERSION,
+                                   .search_milliseconds = wait != 0 ? period(wait) : 0,
+                                   .victim_milliseconds = wait};
     vlm_threads_declaration declaration = {
         .size = sizeof declaration, .node = 1, .group = 1, .syslck = 1, .quota = quota, .requests = MOST_REQUESTS};
     uint32_t status = vlm_threads_open(&options, &layer);

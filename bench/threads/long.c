@@ -82,7 +82,7 @@ static void clock_all(uint32_t count) {
 }
 
 int main(int count, char **words) {
-    vlm_threads_options options = {.size = sizeof options};
+    vlm_threads_options options = VLM_THREADS_OPTIONS;
     must(count == 4 && atol(words[2]) >= 0 && atol(words[3]) > 0 && atol(words[3]) <= MOST, "clock|steps COUNT SIZE");
     size = (uint32_t)atol(words[3]);
     pids = calloc(size / EACH + 1, sizeof *pids);

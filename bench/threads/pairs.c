@@ -44,7 +44,8 @@ static void must(int fact, const char *what) {
 static vlm_threads *layer;
 
 static void open_layer(void) {
-    vlm_threads_options options = {.size = sizeof options, .search_milliseconds = 100};
+    vlm_threads_options options = VLM_THREADS_OPTIONS;
+    options.search_milliseconds = 100;
     must(vlm_threads_open(&options, &layer) == VLM_NORMAL, "open");
 }
 

@@ -18,18 +18,10 @@ static const char usual_socket[] = "/run/vlm/lock.sock";
  * in another PID namespace, or once its parent has ended. A child of clone(2) counts none: its pid tells. */
 bool vlmc_is_usable(const vlm_client *client) { return client->owner == getpid() && client->forks == vlmc_forks(); }
 
-static bool are_zeros(const uint32_t *words, size_t count) {
-    for (size_t at = 0; at < count; at++)
-        if (words[at] != 0)
-            return false;
-    return true;
-}
-
 static bool is_valid(const vlm_client_options *options) {
-    return options->delivery <= VLM_THREADS_BY_PROGRAM
+    return is_of_version(options->version) && options->delivery <= VLM_THREADS_BY_PROGRAM
            && (options->lease_seconds == 0
-               || (options->lease_seconds >= LEAST_LEASE && options->lease_seconds <= MOST_LEASE))
-           && are_zeros(options->reserved, sizeof options->reserved / sizeof *options->reserved);
+               || (options->lease_seconds >= LEAST_LEASE && options->lease_seconds <= MOST_LEASE));
 }
 
 /* Frees what a client has, whose threads have ended. */

@@ -68,7 +68,7 @@ static bool start_watch(vlm_threads *layer) {
 }
 
 static bool is_right_choice(const vlm_threads_options *options) {
-    return options->delivery <= VLM_THREADS_BY_PROGRAM && options->has_keys <= 1
+    return is_of_version(options->version) && options->delivery <= VLM_THREADS_BY_PROGRAM && options->has_keys <= 1
            && (options->long_wait || !options->long_milliseconds);
 }
 

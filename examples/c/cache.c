@@ -112,7 +112,7 @@ int main(void) {
     static struct client clients[THREADS];
     pthread_t threads[THREADS];
     int reads = 0, writes = 0, stale = 0;
-    vlm_threads_options options = {.size = sizeof options};
+    vlm_threads_options options = VLM_THREADS_OPTIONS;
     if (vlm_threads_open(&options, &layer) != VLM_NORMAL)
         return 1;
     for (int i = 0; i < THREADS; i++)

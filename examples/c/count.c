@@ -20,7 +20,7 @@ static void *run(void *given) {
 }
 
 int main(void) {
-    vlm_threads_options options = {.size = sizeof options};
+    vlm_threads_options options = VLM_THREADS_OPTIONS;
     pthread_t threads[2];
     if (vlm_threads_open(&options, &layer) != VLM_NORMAL)
         return 1;

@@ -54,8 +54,9 @@ static void serve(struct pollfd polled[2]) {
 
 int main(void) {
     struct session sessions[] = {{"P", 0}, {"Q", 0}, {"R", 0}};
-    vlm_threads_options options = {.size = sizeof options, .delivery = VLM_THREADS_BY_PROGRAM};
+    vlm_threads_options options = VLM_THREADS_OPTIONS;
     struct pollfd polled[2] = {{.events = POLLIN}, {.events = POLLIN}};
+    options.delivery = VLM_THREADS_BY_PROGRAM;
     if (pipe(jobs) || vlm_threads_open(&options, &layer) != VLM_NORMAL)
         return 1;
     polled[0].fd = jobs[0];

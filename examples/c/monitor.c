@@ -85,8 +85,9 @@ static uint32_t start(uint32_t pid, uint32_t lock, uint32_t mode, const char *na
 }
 
 int main(void) {
-    vlm_threads_options options = {.size = sizeof options, .deadlock = print_deadlock};
+    vlm_threads_options options = VLM_THREADS_OPTIONS;
     uint32_t victims;
+    options.deadlock = print_deadlock;
     if (vlm_threads_open(&options, &layer) != VLM_NORMAL)
         return 1;
     uint32_t p = declared("Paul"), q = declared("Quentin"), r = declared("Rosa");

@@ -25,7 +25,7 @@ static void *give_up(void *given) {
 }
 
 int main(void) {
-    vlm_threads_options options = {.size = sizeof options};
+    vlm_threads_options options = VLM_THREADS_OPTIONS;
     pthread_t thread;
     if (vlm_threads_open(&options, &layer) != VLM_NORMAL)
         return 1;

@@ -31,7 +31,7 @@ static void give_up(uint32_t pid, uint32_t lock, uint32_t flags) {
 }
 
 int main(void) {
-    vlm_threads_options options = {.size = sizeof options};
+    vlm_threads_options options = VLM_THREADS_OPTIONS;
     if (vlm_threads_open(&options, &layer) != VLM_NORMAL)
         return 1;
     uint32_t writer = declared(), reader = declared();

@@ -52,6 +52,7 @@ static void hand_on_token(const struct holding *holding) {
 static bool begin(struct holding *holding, const struct wanted *wanted) {
     char reason[LINE_ROOM] = "";
     vlm_client_options options = {.size = sizeof options,
+                                  .version = VLM_VERSION,
                                   .delivery = VLM_THREADS_BY_PROGRAM,
                                   .socket = wanted->address,
                                   .on_lost = on_lost,

@@ -23,19 +23,20 @@ static uint32_t delivered(void) {
 }
 
 static void test_open(void) {
-    vlm_threads_options options = {.size = sizeof options};
+    vlm_threads_options options = VLM_THREADS_OPTIONS;
     vlm_threads *none = NULL;
     options.size++;
     EXPECT(vlm_threads_open(&options, &none), VLM_BADPARAM);
-    options = (vlm_threads_options){.size = sizeof options, .long_milliseconds = 1};
+    options = (vlm_threads_options){.size = sizeof options, .version = VLM_VERSION, .long_milliseconds = 1};
     EXPECT(vlm_threads_open(&options, &none), VLM_BADPARAM);
-    options = (vlm_threads_options){.size = sizeof options, .delivery = 2};
+    options = (vlm_threads_options){.size = sizeof options, .version = VLM_VERSION, .delivery = 2};
     EXPECT(vlm_threads_open(&options, &none), VLM_BADPARAM);
-    options = (vlm_threads_options){.size = sizeof options, .has_keys = 2};
+    options = (vlm_threads_options){.size = sizeof options, .version = VLM_VERSION, .has_keys = 2};
     EXPECT(vlm_threads_open(&options, &none), VLM_BADPARAM);
     HOLD(none == NULL);
     EXPECT(vlm_threads_close(NULL), VLM_NORMAL);
-    options = (vlm_threads_options){.size = sizeof options, .has_keys = 1, .keys = "sixteen bytes..."};
+    options = (vlm_threads_options){
+        .size = sizeof options, .version = VLM_VERSION, .has_keys = 1, .keys = "sixteen bytes..."};
     EXPECT(vlm_threads_open(&options, &none), VLM_NORMAL);
     int descriptor;
     uint32_t count = 1;

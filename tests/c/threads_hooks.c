@@ -17,6 +17,7 @@ static uint32_t declared_as(const char *label) {
 
 static void open_with(vlm_threads_options options) {
     options.size = sizeof options;
+    options.version = VLM_VERSION;
     options.delivery = VLM_THREADS_BY_PROGRAM;
     EXPECT(vlm_threads_open(&options, &layer), VLM_NORMAL);
 }

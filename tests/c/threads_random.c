@@ -124,6 +124,7 @@ static void note_long_wait(void *context, const vlm_threads_wait *wait) {
 
 static vlm_threads *opened_with_hooks(void) {
     vlm_threads_options options = {.size = sizeof options,
+                                   .version = VLM_VERSION,
                                    .search_milliseconds = 3,
                                    .deadlock = note_deadlock,
                                    .deadlock_context = &guard,

@@ -101,7 +101,8 @@ static void note(void *context, const vlm_threads_event *event) {
 }
 
 static uint32_t open_by(uint32_t delivery, vlm_threads **layer) {
-    vlm_threads_options options = {.size = sizeof options, .delivery = delivery, .search_milliseconds = 100000};
+    vlm_threads_options options = {
+        .size = sizeof options, .version = VLM_VERSION, .delivery = delivery, .search_milliseconds = 100000};
     *layer = NULL;
     return vlm_threads_open(&options, layer);
 }

@@ -40,8 +40,10 @@ static inline long rounds(long all) {
 }
 
 static inline vlm_threads *opened(uint32_t delivery, uint32_t search_milliseconds) {
-    vlm_threads_options options = {
-        .size = sizeof options, .delivery = delivery, .search_milliseconds = search_milliseconds};
+    vlm_threads_options options = {.size = sizeof options,
+                                   .version = VLM_VERSION,
+                                   .delivery = delivery,
+                                   .search_milliseconds = search_milliseconds};
     vlm_threads *layer;
     EXPECT(vlm_threads_open(&options, &layer), VLM_NORMAL);
     return layer;

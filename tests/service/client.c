@@ -50,6 +50,7 @@ static void kill_daemon(void) {
 static vlm_client *opened(vlm_client_options options) {
     vlm_client *client;
     options.size = sizeof options;
+    options.version = VLM_VERSION;
     options.socket = path;
     for (int tries = 0; tries < 1000; tries++) {
         if (vlm_client_open(&options, &client) == VLM_NORMAL)
@@ -119,18 +120,22 @@ static void test_answers(void) {
 static void test_malformed(void) {
     vlm_client *client = opened((vlm_client_options){0}), *none;
     uint32_t pid = declared(client), made;
-    vlm_client_options options = {.size = sizeof options, .delivery = 9};
+    vlm_client_options options = {.size = sizeof options, .version = VLM_VERSION, .delivery = 9};
     CHECK(vlm_client_open(&options, &none) == VLM_BADPARAM && none == NULL);
-    options = (vlm_client_options){.size = sizeof options, .socket = "/nowhere"};
+    options = (vlm_client_options){.size = sizeof options, .version = VLM_VERSION, .socket = "/nowhere"};
     CHECK(vlm_client_open(&options, &none) == VLM_LOST && none == NULL);
-    const uint32_t sizes[] = {0, 63, sizeof options + 1, UINT32_MAX};
+    const uint32_t sizes[] = {0, offsetof(vlm_client_options, certificate) - 1, sizeof options + 1, UINT32_MAX};
     for (size_t at = 0; at < sizeof sizes / sizeof *sizes; at++) {
         options.size = sizes[at];
         CHECK(vlm_client_open(&options, &none) == VLM_BADPARAM && none == NULL);
     }
     char reason[] = "unchanged";
-    options = (vlm_client_options){
-        .size = sizeof options, .socket = "tls:127.0.0.1:1", .certificate = "/", .reason = reason, .reason_len = 4};
+    options = (vlm_client_options){.size = sizeof options,
+                                   .version = VLM_VERSION,
+                                   .socket = "tls:127.0.0.1:1",
+                                   .certificate = "/",
+                                   .reason = reason,
+                                   .reason_len = 4};
     CHECK(vlm_client_open(&options, &none) == VLM_LOST && none == NULL && strcmp(reason, "TLS") == 0);
     vlm_threads_declaration declaration = {.size = sizeof declaration, .quota = 9, .requests = 0};
     CHECK(vlm_client_declare(client, &declaration, &made) == VLM_BADPARAM && made == 0);
@@ -736,7 +741,7 @@ static pthread_t served(const struct row *rows, vlm_client **client) {
     fake.listener = socket(AF_UNIX, SOCK_STREAM | SOCK_CLOEXEC, 0);
     CHECK(bind(fake.listener, (const struct sockaddr *)&address, sizeof address) == 0 && listen(fake.listener, 1) == 0);
     pthread_create(&thread, NULL, serve, NULL);
-    vlm_client_options options = {.size = sizeof options, .socket = fake.path};
+    vlm_client_options options = {.size = sizeof options, .version = VLM_VERSION, .socket = fake.path};
     CHECK(vlm_client_open(&options, client) == VLM_NORMAL);
     return thread;
 }

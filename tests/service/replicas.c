@@ -14,7 +14,7 @@
 
 enum { CLIENTS = 2, WORKERS = 3, COUNTERS = 3, KINDS = 4, CALLERS = 100, WAIT = 120000, MOST_SECONDS = 240 };
 
-static vlm_client_options options = {.size = sizeof options};
+static vlm_client_options options = {.size = sizeof options, .version = VLM_VERSION};
 static atomic_ulong steps, cancels;
 static atomic_bool is_over, is_impatient;
 

@@ -4,16 +4,16 @@ from ctypes import CFUNCTYPE, POINTER, c_char_p, c_int, c_size_t, c_uint32, c_ui
 from functools import lru_cache
 from typing import Any, Dict, List
 
-from ._library import LIBRARY, ThreadsDeclaration, ThreadsDequeue, ThreadsRequest, Value, _reserved, _struct, _words
+from ._library import LIBRARY, ThreadsDeclaration, ThreadsDequeue, ThreadsRequest, Value, _struct, _words
 
 # The call of a loss.
 LOSS = CFUNCTYPE(None, c_void_p)
 BY_PROGRAM = 1
 Declaration, Request, Dequeue = ThreadsDeclaration, ThreadsRequest, ThreadsDequeue
 
-Options = _struct("Options", 104, *_words("delivery"), ("socket", c_char_p), ("on_lost", LOSS),
-                  ("lost_context", c_void_p), *_words("lease_seconds"), _reserved(7), ("certificate", c_char_p),
-                  ("key", c_char_p), ("authority", c_char_p), ("reason", c_void_p), ("reason_len", c_uint64))
+Options = _struct("Options", 80, *_words("version delivery lease_seconds"), ("socket", c_char_p), ("on_lost", LOSS),
+                  ("lost_context", c_void_p), ("certificate", c_char_p), ("key", c_char_p), ("authority", c_char_p),
+                  ("reason", c_void_p), ("reason_len", c_uint64))
 # Bytes of the reason that an opening gets.
 REASON = 256
 

@@ -88,9 +88,10 @@ RELEASED: Any = CFUNCTYPE(None, c_void_p, c_void_p)
 WAIT_HOOK: Any = CFUNCTYPE(None, c_void_p, POINTER(ThreadsWait))
 DEADLOCK_HOOK: Any = CFUNCTYPE(None, c_void_p, POINTER(ThreadsDeadlock))
 READER: Any = CFUNCTYPE(None, c_void_p, POINTER(Handle))
-ThreadsOptions = _struct("ThreadsOptions", 72, *_words("delivery search_milliseconds has_keys"), ("keys", c_uint8 * 16),
-                         *_words("victim_milliseconds long_milliseconds"), ("deadlock", DEADLOCK_HOOK),
-                         ("deadlock_context", c_void_p), ("long_wait", WAIT_HOOK), ("long_wait_context", c_void_p))
+ThreadsOptions = _struct("ThreadsOptions", 80, *_words("version delivery search_milliseconds has_keys"),
+                         ("keys", c_uint8 * 16), *_words("victim_milliseconds long_milliseconds"),
+                         ("deadlock", DEADLOCK_HOOK), ("deadlock_context", c_void_p), ("long_wait", WAIT_HOOK),
+                         ("long_wait_context", c_void_p))
 ThreadsDeclaration = _struct("ThreadsDeclaration", 64, *_words("node group syslck quota requests tied own_queue"),
                              ("label", Label))
 ThreadsRequest = _struct("ThreadsRequest", 80, *_words("pid mode flags lock milliseconds"), ("value", c_void_p),

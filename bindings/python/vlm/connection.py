@@ -14,7 +14,7 @@ from typing import Any, Callable, Dict, Optional, Set, Type
 from . import _client as raw
 from ._arguments import flags_word, name_bytes, need_routines, part, seconds, word
 from ._asks import GRANTS, milliseconds
-from ._library import LOST, ROUTINE, address_of
+from ._library import LOST, ROUTINE, VERSION, address_of
 from .errors import BadParamError, DepartedError, LostError, NonExprError, VlmError, checked
 from .held import HeldLock
 from .values import Condition, DequeueFlags, Flags, Mode, Name
@@ -113,8 +113,8 @@ class Connection:
         handle = c_void_p()
         path, *files = [None if it is None else os.fsencode(it) for it in (socket, certificate, key, authority)]
         reason = create_string_buffer(raw.REASON)
-        options = raw.Options(delivery=raw.BY_PROGRAM, socket=path, on_lost=self._told,
-                              lease_seconds=word(lease, "the lease"), reason=addressof(reason), reason_len=raw.REASON,
+        options = raw.Options(version=VERSION, delivery=raw.BY_PROGRAM, lease_seconds=word(lease, "the lease"),
+                              socket=path, on_lost=self._told, reason=addressof(reason), reason_len=raw.REASON,
                               **dict(zip(("certificate", "key", "authority"), files)))
         try:
             checked(raw.call("open")(byref(options), byref(handle)))

@@ -127,9 +127,9 @@ class Shared:
         searches. A request that has waited less than `victims_after` is no victim. `on_deadlock` is called before a
         victim ends, and `on_long_wait` once for each wait that is longer than `long_wait`. Both may make calls."""
         self.is_by_program, self._is_closed, self._owner = by_program, False, os.getpid()
-        words = raw.ThreadsOptions(delivery=mark(by_program), search_milliseconds=milliseconds(search_every),
-                                   victim_milliseconds=_age(victims_after), has_keys=1,
-                                   long_milliseconds=milliseconds(long_wait))
+        words = raw.ThreadsOptions(version=raw.VERSION, delivery=mark(by_program), has_keys=1,
+                                   search_milliseconds=milliseconds(search_every),
+                                   victim_milliseconds=_age(victims_after), long_milliseconds=milliseconds(long_wait))
         words.keys[:] = options(keys).keys
         self._hooks = hooks = words.deadlock_context = words.long_wait_context = keep(_Hooks(on_deadlock, on_long_wait))
         if on_deadlock is not None:

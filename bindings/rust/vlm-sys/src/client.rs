@@ -4,8 +4,8 @@ use std::ffi::{c_char, c_int, c_void};
 use std::mem::size_of;
 use std::ptr::{null, null_mut};
 
-use crate::structs;
 use crate::threads::{Declaration, Dequeue, Request};
+use crate::{structs, VERSION};
 
 /// A connection with its session, its processes and its threads.
 #[repr(C)]
@@ -19,9 +19,9 @@ pub const LOST: u32 = 101;
 pub type Loss = extern "C" fn(*mut c_void);
 
 structs! {
-    ClientOptions 104 {
-        delivery: u32 = 0, socket: *const c_char = null(), on_lost: Option<Loss> = None,
-        lost_context: *mut c_void = null_mut(), lease_seconds: u32 = 0, reserved: [u32; 7] = [0; 7],
+    ClientOptions 80 {
+        version: u32 = VERSION, delivery: u32 = 0, lease_seconds: u32 = 0, socket: *const c_char = null(),
+        on_lost: Option<Loss> = None, lost_context: *mut c_void = null_mut(),
         certificate: *const c_char = null(), key: *const c_char = null(), authority: *const c_char = null(),
         reason: *mut c_char = null_mut(), reason_len: u64 = 0,
     }

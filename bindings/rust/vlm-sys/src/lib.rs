@@ -56,8 +56,8 @@ pub const LINE_SHOW: u32 = 12;
 /// `tails`: shows the tails of all value blocks.
 pub const LINE_TAILS: u32 = 13;
 
-/// Defines structs of the library, each with its size as its first member and a rest of zeros. Pins the sizes that the
-/// header asserts. There is no padding, so each member is where C has it.
+/// Defines structs of the library, each with its size as its first member and usual values after it. Pins the sizes
+/// that the header asserts. There is no padding, so each member is where C has it.
 macro_rules! structs {
     ($($name:ident $bytes:literal { $($field:ident: $kind:ty = $zero:expr),* $(,)? })*) => { $(
         #[repr(C)]
@@ -67,7 +67,7 @@ macro_rules! structs {
         }
 
         impl $name {
-            /// All members 0 except the size.
+            /// All members 0 except the size and a version.
             pub const fn new() -> $name {
                 $name { size: size_of::<$name>() as u32, $($field: $zero,)* }
             }

@@ -4,7 +4,7 @@ use std::ffi::{c_char, c_int, c_void};
 use std::mem::size_of;
 use std::ptr::null_mut;
 
-use crate::{structs, Lock, Vlm};
+use crate::{structs, Lock, Vlm, VERSION};
 
 /// A lock manager with its mutex, its processes and its threads.
 #[repr(C)]
@@ -38,11 +38,11 @@ structs! {
     Deadlock 3792 {
         victim: u32 = 0, pid: u32 = 0, length: u32 = 0, waits: [Wait; CYCLE] = [NO_WAIT; CYCLE],
     }
-    Options 72 {
-        delivery: u32 = 0, search_milliseconds: u32 = 0, has_keys: u32 = 0, keys: [u8; 16] = [0; 16],
-        victim_milliseconds: u32 = 0, long_milliseconds: u32 = 0, deadlock: Option<DeadlockHook> = None,
-        deadlock_context: *mut c_void = null_mut(), long_wait: Option<WaitHook> = None,
-        long_wait_context: *mut c_void = null_mut(),
+    Options 80 {
+        version: u32 = VERSION, delivery: u32 = 0, search_milliseconds: u32 = 0, has_keys: u32 = 0,
+        keys: [u8; 16] = [0; 16], victim_milliseconds: u32 = 0, long_milliseconds: u32 = 0, padding: u32 = 0,
+        deadlock: Option<DeadlockHook> = None, deadlock_context: *mut c_void = null_mut(),
+        long_wait: Option<WaitHook> = None, long_wait_context: *mut c_void = null_mut(),
     }
     Declaration 64 {
         node: u32 = 0, group: u32 = 0, syslck: u32 = 0, quota: u32 = 0, requests: u32 = 0, tied: u32 = 0,
