@@ -115,10 +115,11 @@ uint32_t vlm_client_deq(vlm_client *client, const vlm_threads_dequeue *dequeue);
  * INSFMEM: memory was refused. BADPARAM: the word begins with no letter, or has a line feed or more than 256 bytes. */
 uint32_t vlm_client_read(vlm_client *client, const char *word, uint32_t lkid, char **text);
 
-/* Reads the fencing token of a lock: of its last request that ended well. docs/SERVICE.md says what it is for. A later
- * grant has a greater one. *token is 0 unless the answer is NORMAL.
- * IVLOCKID: there is no such lock, or it waits for its first grant. UNSUPPORTED: the service has no tokens. INSFMEM:
- * memory was refused. */
+/* Tells the fencing token of a lock: of its last request that ended well. docs/SERVICE.md says what it is for. A later
+ * grant has a greater one. *token is 0 unless the answer is NORMAL. The client knows the token of its own lock, which
+ * comes with the end of the request. It reads that of another client's lock by a line, and that of a grant at once with
+ * VLM_SYNCSTS.
+ * IVLOCKID: there is no such lock, or it waits for its first grant. INSFMEM: memory was refused. */
 uint32_t vlm_client_token(vlm_client *client, uint32_t lkid, uint64_t *token);
 
 /* Deliver events, as the calls of vlm_threads.h with the same ends do. The completion routine of a request that is

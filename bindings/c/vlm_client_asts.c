@@ -5,21 +5,36 @@
 #include <string.h>
 
 /* The record that an AST names, or NO_RECORD for another line. */
-uint32_t vlmc_record_of(const char *line, const char *kind) {
+static uint32_t record_of(const char *line, const char *kind) {
     const char *word = strchr(line, ' ');
     if (line[0] != 'p' || word == NULL || strncmp(word + 1, kind, strlen(kind)) != 0)
         return NO_RECORD;
     return (uint32_t)strtoul(word + 1 + strlen(kind), NULL, 10);
 }
 
+bool vlmc_read_ast(struct ast *ast, const char *line) {
+    uint32_t completed = record_of(line, "completion "), warned = record_of(line, "blocking ");
+    *ast = (struct ast){.record = completed != NO_RECORD ? completed : warned, .is_warning = completed == NO_RECORD};
+    if (ast->record == NO_RECORD)
+        return false;
+    ast->lkid = (uint32_t)vlmc_number_after(line, " lock ");
+    return true;
+}
+
+void vlmc_read_block(struct ast *ast, const char *line) {
+    ast->status = (uint32_t)vlmc_number_after(line, " status ");
+    vlmc_read_value(line, ast->value, SHORT_VALUE);
+}
+
 /* An AST of a record whose request is accepted. */
-static void take(vlm_client *client, const struct early *ast) {
+static void take(vlm_client *client, const struct ast *ast) {
     struct record *record = &client->records[ast->record];
     if (ast->is_warning) {
         vlmc_warn(client, ast->record);
         return;
     }
     memcpy(record->value, ast->value, SHORT_VALUE);
+    record->token = ast->token;
     vlmc_end(client, ast->record, ast->status);
 }
 
@@ -33,57 +48,53 @@ static uint32_t unanswered(const vlm_client *client, uint32_t place) {
 }
 
 /* An AST that can't be kept would be missed. */
-static void keep(vlm_client *client, const struct early *ast) {
+static void keep(vlm_client *client, const struct ast *ast, uint32_t awaited) {
     struct early *kept = malloc(sizeof *kept), **last = &client->early;
     if (kept == NULL) {
         vlmc_ruin(client);
         return;
     }
-    *kept = *ast;
+    *kept = (struct early){.awaited = awaited, .ast = *ast};
     while (*last != NULL)
         last = &(*last)->next;
     *last = kept;
 }
 
-/* A completion has the line of its status block: how the request ended, and the value. A record that has another lock
- * has a later request: its lock has gone. */
-void vlmc_take_ast(vlm_client *client, uint32_t place, uint32_t lkid, const char *block) {
-    struct early ast = {.record = place, .lkid = lkid, .awaited = NO_RECORD, .is_warning = block == NULL};
-    const char *word = block != NULL ? strstr(block, " status ") : NULL;
+/* A record that has another lock has a later request: its lock has gone. */
+static bool is_there(const vlm_client *client, const struct ast *ast) {
+    return client->records[ast->record].is_used && client->records[ast->record].lkid == ast->lkid;
+}
+
+void vlmc_take_ast(vlm_client *client, const struct ast *ast) {
     client->asts++;
-    if (place >= client->record_room || !client->records[place].is_used)
+    if (ast->record >= client->record_room || !client->records[ast->record].is_used)
         return;
-    memcpy(ast.value, client->records[place].value, SHORT_VALUE);
-    if (word != NULL)
-        ast.status = (uint32_t)strtoul(word + strlen(" status "), NULL, 10);
-    if (block != NULL)
-        vlmc_read_value(block, ast.value, SHORT_VALUE);
-    ast.awaited = unanswered(client, place);
-    if (ast.awaited != NO_RECORD)
-        keep(client, &ast);
-    else if (client->records[place].lkid == lkid)
-        take(client, &ast);
+    uint32_t awaited = unanswered(client, ast->record);
+    if (awaited != NO_RECORD)
+        keep(client, ast, awaited);
+    else if (is_there(client, ast))
+        take(client, ast);
 }
 
 /* The request of a record is answered: what came before counts, in its order. */
 void vlmc_take_early(vlm_client *client, uint32_t place) {
     for (struct early **at = &client->early; *at != NULL;) {
-        struct early *ast = *at;
-        if (ast->awaited != place) {
-            at = &ast->next;
+        struct early *early = *at;
+        if (early->awaited != place) {
+            at = &early->next;
             continue;
         }
-        *at = ast->next;
-        if (client->records[ast->record].is_used && client->records[ast->record].lkid == ast->lkid)
-            take(client, ast);
-        free(ast);
+        *at = early->next;
+        if (is_there(client, &early->ast))
+            take(client, &early->ast);
+        free(early);
     }
 }
 
 void vlmc_drop_early(vlm_client *client) {
-    for (struct early *ast = client->early, *next; ast != NULL; ast = next) {
-        next = ast->next;
-        free(ast);
+    for (struct early *early = client->early, *next; early != NULL; early = next) {
+        next = early->next;
+        free(early);
     }
     client->early = NULL;
 }

@@ -10,8 +10,7 @@
  * has an old number was not made: it was over a limit. */
 uint32_t vlmc_status(const char *answer, uint64_t *handle) {
     const char *word = strchr(answer, ':');
-    const char *lock = strstr(answer, " lock ");
-    *handle = lock != NULL ? strtoull(lock + strlen(" lock "), NULL, 10) : 0;
+    *handle = vlmc_number_after(answer, " lock ");
     if (word == NULL || word[1] == 0)
         return strncmp(answer, "no ident", 8) == 0        ? VLM_NOLOCKID
                : strncmp(answer, "too many", 8) == 0      ? VLM_EXENQLM
@@ -37,6 +36,12 @@ int vlmc_write_hex(char *text, const uint8_t *bytes, size_t len) {
     for (size_t at = 0; at < len; at++)
         snprintf(text + 2 * at, 3, "%02x", bytes[at]);
     return (int)(2 * len);
+}
+
+/* The number after a word of a line, or 0 without the word. */
+uint64_t vlmc_number_after(const char *line, const char *word) {
+    const char *found = strstr(line, word);
+    return found != NULL ? strtoull(found + strlen(word), NULL, 10) : 0;
 }
 
 static uint8_t digit(char byte) { return (uint8_t)(byte <= '9' ? byte - '0' : byte - 'a' + 10); }

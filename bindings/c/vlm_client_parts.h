@@ -86,15 +86,20 @@ struct pending {
     uint64_t number; /* of the line, or 0: with a lease each step has one */
 };
 
+struct ast {
+    uint32_t record, lkid;
+    bool is_warning;
+    uint32_t status; /* of a completion: how the request ended */
+    uint8_t value[SHORT_VALUE];
+    uint64_t token; /* of a grant */
+};
+
 /* An AST that came before the answer to its request, or a warning before the answer to its lock's conversion: a resumed
  * session brings all ASTs first. */
 struct early {
     struct early *next;
-    uint32_t record, lkid;
     uint32_t awaited; /* the record of the request that has no answer */
-    bool is_warning;
-    uint32_t status;
-    uint8_t value[SHORT_VALUE];
+    struct ast ast;
 };
 
 /* Where a service may be, and the host that the program named. */
@@ -120,6 +125,7 @@ struct record {
     bool is_going;     /* by a dequeue of many */
     bool is_sent;      /* its line; before, only the call that made the record frees it */
     struct call *call; /* waits for the end, or null */
+    uint64_t token;    /* of the last grant; 0 if that brought none: with SYNCSTS it was at once */
     vlm_threads_routine completion, blocking;
     void *completion_context, *blocking_context;
     uint8_t value[WHOLE_VALUE];
@@ -243,9 +249,11 @@ void vlmc_ruin(vlm_client *client);
 /* vlm_client_reader.c: takes no mutex held. */
 void *vlmc_read(void *client);
 
-/* vlm_client_asts.c. The lines of an AST were read: `block` is null for a warning. */
-uint32_t vlmc_record_of(const char *line, const char *kind);
-void vlmc_take_ast(vlm_client *client, uint32_t place, uint32_t lkid, const char *block);
+/* vlm_client_asts.c. vlmc_read_ast and vlmc_read_block take no mutex: they read the first line of an AST, if it is one,
+ * and the line of a completion's status block. */
+bool vlmc_read_ast(struct ast *ast, const char *line);
+void vlmc_read_block(struct ast *ast, const char *line);
+void vlmc_take_ast(vlm_client *client, const struct ast *ast);
 void vlmc_take_early(vlm_client *client, uint32_t place);
 void vlmc_drop_early(vlm_client *client);
 
@@ -258,6 +266,7 @@ uint32_t vlmc_send(vlm_client *client, const char *lines, const struct pending *
 uint32_t vlmc_status(const char *answer, uint64_t *handle);
 int vlmc_write_hex(char *text, const uint8_t *bytes, size_t len);
 bool vlmc_read_value(const char *line, uint8_t *value, size_t len);
+uint64_t vlmc_number_after(const char *line, const char *word);
 
 /* vlm_client_readings.c */
 bool vlmc_read_line(vlm_client *client, struct call *call, const char *line);
@@ -268,7 +277,7 @@ void vlmc_begin_call(struct call *call, uint32_t answers);
 struct timespec vlmc_moment_after(uint64_t milliseconds);
 uint32_t vlmc_ask(vlm_client *client, struct call *call, const char *line, uint32_t taken);
 
-/* vlm_client_records.c */
+/* vlm_client_records.c. vlmc_find_lock finds the lock of a process, or with pid 0 of any. */
 uint32_t vlmc_new_record(vlm_client *client);
 uint32_t vlmc_find_lock(const vlm_client *client, uint32_t pid, uint32_t lkid);
 void vlmc_free_block(vlm_client *client, uint32_t pid, uint32_t block);

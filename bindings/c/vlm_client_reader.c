@@ -95,11 +95,10 @@ static void pop(vlm_client *client) {
 
 static void read_answer(const struct pending *first, const char *line) {
     struct call *call = first->call;
-    const char *status = strstr(line, " status ");
     if (first->taken == STATUS)
         call->answer = vlmc_status(line, &call->handle);
     if (first->taken == VALUE) {
-        call->status = status != NULL ? (uint32_t)strtoul(status + strlen(" status "), NULL, 10) : 0;
+        call->status = (uint32_t)vlmc_number_after(line, " status ");
         vlmc_read_value(line, call->value, SHORT_VALUE);
     }
     if (first->taken == TAIL && !vlmc_read_value(line, call->value + SHORT_VALUE, WHOLE_VALUE - SHORT_VALUE))
@@ -160,31 +159,35 @@ static void lose(vlm_client *client) {
     vlmc_tell_loss(client);
 }
 
-/* The lock that an AST names. */
-static uint32_t lock_of(const char *line) {
-    const char *lock = strstr(line, " lock ");
-    return lock != NULL ? (uint32_t)strtoull(lock + strlen(" lock "), NULL, 10) : 0;
+/* Reads what follows the first line of a completion: the line of the status block, and after a grant that of the token.
+ * False at the end of the connection. */
+static bool read_completion(vlm_client *client, struct lines *lines, struct ast *ast) {
+    const char *line = next_line(client, lines);
+    if (line == NULL)
+        return false;
+    vlmc_read_block(ast, line);
+    if (!vlmc_is_grant(ast->status))
+        return true;
+    line = next_line(client, lines);
+    ast->token = line != NULL ? vlmc_number_after(line, " token ") : 0;
+    return line != NULL;
 }
 
 /* Takes what comes on a connection up to its end. Whether the session may go on: not after a line that says so. */
 static bool hear(vlm_client *client, struct lines *lines) {
     char *line;
+    struct ast ast;
     lines->from = lines->len = 0;
     while ((line = next_line(client, lines)) != NULL) {
-        uint32_t completed = vlmc_record_of(line, "completion "), warned = vlmc_record_of(line, "blocking ");
-        bool is_ast = completed != NO_RECORD || warned != NO_RECORD;
-        uint32_t lkid = is_ast ? lock_of(line) : 0;
+        bool is_ast = vlmc_read_ast(&ast, line);
         if (vlmc_is_end(line))
             return vlmc_is_own_move(client, line);
-        if (vlmc_is_cut_off(line))
-            return true;
-        char *block = completed != NO_RECORD ? next_line(client, lines) : NULL;
-        if (completed != NO_RECORD && block == NULL)
+        if (vlmc_is_cut_off(line) || (is_ast && !ast.is_warning && !read_completion(client, lines, &ast)))
             return true;
         pthread_mutex_lock(&client->state);
         bool is_out = vlmc_is_out(client);
         if (!is_out && is_ast)
-            vlmc_take_ast(client, completed != NO_RECORD ? completed : warned, lkid, block);
+            vlmc_take_ast(client, &ast);
         else if (!is_out)
             take_answer(client, line);
         pthread_mutex_unlock(&client->state);

@@ -61,12 +61,15 @@ uint32_t vlmc_new_record(vlm_client *client) {
     return place;
 }
 
-/* The record of a lock of a process, or NO_RECORD. */
+static bool is_of(const struct record *record, uint32_t pid, uint32_t lkid) {
+    return record->lkid == lkid && (pid == 0 || record->pid == pid);
+}
+
 uint32_t vlmc_find_lock(const vlm_client *client, uint32_t pid, uint32_t lkid) {
     if (client->record_room == 0)
         return NO_RECORD;
     uint32_t place = *bucket(client, lkid);
-    while (place != NO_RECORD && (client->records[place].lkid != lkid || client->records[place].pid != pid))
+    while (place != NO_RECORD && !is_of(&client->records[place], pid, lkid))
         place = client->records[place].next;
     return place;
 }
@@ -99,12 +102,14 @@ static bool has_tail(const struct record *record) {
     return record->is_granted && (record->flags & VLM_VALBLK) != 0 && (record->flags & VLM_WIDE) != 0;
 }
 
-/* The record's request was granted. A conversion brings its blocking routine, and older warnings are stale. */
+/* The record's request was granted. A conversion brings its token and blocking routine, and older warnings are
+ * stale. */
 static void grant(vlm_client *client, struct record *record) {
     record->is_granted = true;
     if (record->lock == NO_RECORD)
         return;
     struct record *lock = &client->records[record->lock];
+    lock->token = record->token;
     lock->blocking = record->blocking;
     lock->blocking_context = record->blocking_context;
     lock->generation++;

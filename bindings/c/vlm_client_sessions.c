@@ -69,11 +69,6 @@ bool vlmc_is_own_move(vlm_client *client, const char *line) {
     return true;
 }
 
-static uint64_t number_after(const char *line, const char *word) {
-    const char *found = strstr(line, word);
-    return found != NULL ? strtoull(found + strlen(word), NULL, 10) : 0;
-}
-
 static bool read_session(const char *line, struct told *told) {
     static const char before[] = "session ";
     if (strncmp(line, before, strlen(before)) != 0)
@@ -83,9 +78,9 @@ static bool read_session(const char *line, struct told *told) {
         return false;
     memcpy(told->name, name, NAME_DIGITS);
     told->name[NAME_DIGITS] = 0;
-    told->seconds = number_after(line, " seconds ");
-    told->number = number_after(line, " number ");
-    told->asts = number_after(line, " asts ");
+    told->seconds = vlmc_number_after(line, " seconds ");
+    told->number = vlmc_number_after(line, " number ");
+    told->asts = vlmc_number_after(line, " asts ");
     return true;
 }
 
@@ -184,9 +179,9 @@ static void begin_session(vlm_client *client, const struct told *told, uint64_t 
 
 /* Each address is tried once. */
 uint32_t vlmc_connect(vlm_client *client) {
-    char first[LINE_ROOM] = "open\n";
+    char first[LINE_ROOM] = "open tokens\n";
     if (client->lease != 0)
-        snprintf(first, sizeof first, "open seconds=%" PRIu32 "\n", client->lease / 1000);
+        snprintf(first, sizeof first, "open seconds=%" PRIu32 " tokens\n", client->lease / 1000);
     refused(client, NOT_THERE, "no such address");
     if (!vlmc_find_addresses(client) || !has_keys(client))
         return VLM_LOST;

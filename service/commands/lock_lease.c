@@ -37,7 +37,7 @@ static void hand_on_value(const vlm_threads_request *request) {
         unsetenv("VLM_VALUE");
 }
 
-/* Hands the fencing token of the lock on. A service without tokens has none. */
+/* Hands the fencing token of the lock on, which came with the grant. */
 static void hand_on_token(const struct holding *holding) {
     char digits[24];
     uint64_t token;

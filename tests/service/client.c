@@ -706,7 +706,8 @@ static struct {
 
 /* What comes for a granted request, which has a record of the client. */
 #define BLOCK "p1: block 1 status 1 lock 1 value 000102030405060708090a0b0c0d0e0f\n"
-#define GRANTED(record) "p1: NORMAL lock 1\np1: completion " record " param 0 lock 1\n" BLOCK
+#define COMPLETED(record, token) "p1: completion " record " param 0 lock 1\n" BLOCK "p1: token " token "\n"
+#define GRANTED(record, token) "p1: NORMAL lock 1\n" COMPLETED(record, token)
 
 static void *serve(void *none) {
     char line[1024];
@@ -763,7 +764,7 @@ static void *convert_shortly(void *context) {
 }
 
 #define OPEN \
-    { "open", "session fedcba9876543210 seconds 0 number 0 asts 0\n" }
+    { "open tokens\n", "session fedcba9876543210 seconds 0 number 0 asts 0\n" }
 #define DECLARE \
     { "declare", "p1: process 65537\n" }
 
@@ -772,7 +773,7 @@ static void *convert_shortly(void *context) {
 static void test_half_answers(void) {
     static const struct row tables[][4] = {{OPEN, DECLARE, {"enq", "p1: SYNCH lock 1\n"}},
                                            {OPEN, DECLARE, {"enq", "p1: SYNCH lock 1\n" BLOCK}},
-                                           {OPEN, DECLARE, {"enq", GRANTED("0")}},
+                                           {OPEN, DECLARE, {"enq", GRANTED("0", "7")}},
                                            {OPEN, DECLARE, {"enq", "session killed\n"}, {NULL, stays}},
                                            {OPEN, DECLARE, {"enq", "session moved\n"}, {NULL, stays}}};
     static const uint32_t flags[] = {VLM_SYNCSTS, VLM_SYNCSTS, 0, 0, 0};
@@ -794,8 +795,9 @@ static void test_half_answers(void) {
 /* The connection or the process ends before the tail of a value comes, which the event of a grant brings: it tells
  * so. */
 static void test_half_event(void) {
-    static const struct row tables[][5] = {{OPEN, DECLARE, {"enq", GRANTED("0")}},
-                                           {OPEN, DECLARE, {"enq", GRANTED("0")}, {"tail p1 1", ENDED}, {NULL, stays}}};
+    static const struct row tables[][5] = {
+        {OPEN, DECLARE, {"enq", GRANTED("0", "7")}},
+        {OPEN, DECLARE, {"enq", GRANTED("0", "7")}, {"tail p1 1", ENDED}, {NULL, stays}}};
     static const uint32_t statuses[] = {VLM_LOST, VLM_NONEXPR};
     for (size_t at = 0; at < sizeof statuses / sizeof *statuses; at++) {
         vlm_client *client;
@@ -814,8 +816,9 @@ static void test_half_event(void) {
 
 /* Another thread has ended the process before the request, or before the tail of its value: there is no lock. */
 static void test_ended_process(void) {
-    static const struct row tables[][5] = {{OPEN, DECLARE, {"enq", ENDED}, {NULL, stays}},
-                                           {OPEN, DECLARE, {"enq", GRANTED("0")}, {"tail p1 1", ENDED}, {NULL, stays}}};
+    static const struct row tables[][5] = {
+        {OPEN, DECLARE, {"enq", ENDED}, {NULL, stays}},
+        {OPEN, DECLARE, {"enq", GRANTED("0", "7")}, {"tail p1 1", ENDED}, {NULL, stays}}};
     for (size_t at = 0; at < sizeof tables / sizeof *tables; at++) {
         vlm_client *client;
         pthread_t thread = served(tables[at], &client);
@@ -830,14 +833,13 @@ static void test_ended_process(void) {
 /* While nothing was heard of the end of a conversion, another one of the lock is refused without a line: a wait for the
  * first that is too long would cancel it. */
 static void test_two_conversions(void) {
-    static const struct row rows[] = {
-        OPEN,
-        DECLARE,
-        {"enq", GRANTED("0")},
-        {"cvt p1 1 PR", "p1: NORMAL lock 1\n"},
-        {"deq p1 1 cancel", "p1: completion 1 param 0 lock 1\n" BLOCK "p1: CANCELGRANT\n"},
-        {"cvt p1 1 CR", GRANTED("1")},
-        {NULL, stays}};
+    static const struct row rows[] = {OPEN,
+                                      DECLARE,
+                                      {"enq", GRANTED("0", "7")},
+                                      {"cvt p1 1 PR", "p1: NORMAL lock 1\n"},
+                                      {"deq p1 1 cancel", COMPLETED("1", "8") "p1: CANCELGRANT\n"},
+                                      {"cvt p1 1 CR", GRANTED("1", "8")},
+                                      {NULL, stays}};
     vlm_client *client;
     pthread_t thread = served(rows, &client);
     vlm_threads_request request = wanted(declared(client), VLM_EX, 0);
@@ -871,8 +873,8 @@ static void test_late_lock(void) {
                                       DEQUEUE,
                                       DEQUEUE,
                                       DEQUEUE,
-                                      {"enq", NORMAL NORMAL NORMAL NORMAL GRANTED("0")},
-                                      {"cvt p1 1 PR", GRANTED("1")},
+                                      {"enq", NORMAL NORMAL NORMAL NORMAL GRANTED("0", "7")},
+                                      {"cvt p1 1 PR", GRANTED("1", "8")},
                                       {NULL, NULL}};
     vlm_client *client;
     pthread_t thread = served(rows, &client), threads[THREADS];
@@ -985,21 +987,56 @@ static void test_tokens(void) {
     CHECK(vlm_client_token(client, one.lkid, &third) == VLM_IVLOCKID);
     CHECK(vlm_client_token(client, 0, &third) == VLM_IVLOCKID);
     kill_daemon();
+    CHECK(vlm_client_token(client, 0, &third) == VLM_LOST);
     CHECK(vlm_client_token(client, other.lkid, &third) == VLM_LOST && third == 0);
     CHECK(vlm_client_close(client) == VLM_NORMAL);
     start_daemon();
 }
 
-/* A service without tokens. */
-static void test_no_tokens(void) {
+static bool is_token(vlm_client *client, uint64_t wanted) {
+    uint64_t token;
+    uint32_t status = vlm_client_token(client, 1, &token);
+    return wanted != 0 ? status == VLM_NORMAL && token == wanted : status == VLM_IVLOCKID && token == 0;
+}
+
+static void on_token(void *client, const vlm_threads_event *event) {
+    CHECK(event->status == VLM_NORMAL && is_token(client, 10));
+    told.completions++;
+}
+
+/* A grant brings its token, so no line asks for it: also after a conversion that fails, and in a routine. A grant at
+ * once with SYNCSTS brings none, and a lock that has gone has none. */
+static void test_known_tokens(void) {
     static const struct row rows[] = {
-        OPEN, DECLARE, {"enq", GRANTED("0")}, {"token 1", "unknown command\n"}, {NULL, NULL}};
+        OPEN,
+        DECLARE,
+        {"enq", GRANTED("0", "7")},
+        {"cvt p1 1 PR", GRANTED("1", "8")},
+        {"cvt p1 1 EX", "p1: NORMAL lock 1\np1: completion 1 param 0 lock 1\np1: block 1 status 6 lock 1 value 0\n"},
+        {"cvt p1 1 CR", "p1: SYNCH lock 1\n"},
+        {"token 1", "token 9\n\n"},
+        {"cvt p1 1 NL", GRANTED("1", "10")},
+        {"deq p1 1", "p1: NORMAL\n"},
+        {"token 1", "no such lock\n\n"},
+        {NULL, stays}};
     vlm_client *client;
     pthread_t thread = served(rows, &client);
     vlm_threads_request request = wanted(declared(client), VLM_EX, 0);
-    uint64_t token;
-    CHECK(enq(client, &request, "A") == VLM_NORMAL);
-    CHECK(vlm_client_token(client, request.lkid, &token) == VLM_UNSUPPORTED && token == 0);
+    memset(&told, 0, sizeof told);
+    CHECK(enq(client, &request, "A") == VLM_NORMAL && is_token(client, 7) && is_token(client, 7));
+    request.lock = 1;
+    request.mode = VLM_PR;
+    CHECK(vlm_client_convert(client, &request) == VLM_NORMAL && is_token(client, 8));
+    request.mode = VLM_EX;
+    CHECK(vlm_client_convert(client, &request) == VLM_DEADLOCK && is_token(client, 8));
+    request.mode = VLM_CR;
+    request.flags = VLM_SYNCSTS;
+    CHECK(vlm_client_convert(client, &request) == VLM_SYNCH && is_token(client, 9));
+    request = (vlm_threads_request){.size = sizeof request, .pid = 1, .lock = 1, .mode = VLM_NL};
+    request.completion = on_token;
+    request.completion_context = client;
+    CHECK(vlm_client_start_convert(client, &request) == VLM_NORMAL && until(&told.completions, 1));
+    CHECK(is_token(client, 10) && deq(client, 1, 1, 0) == VLM_NORMAL && is_token(client, 0));
     end_service(thread, client);
 }
 
@@ -1039,7 +1076,7 @@ int main(int count, char **words) {
     test_signals();
     test_readings();
     test_tokens();
-    test_no_tokens();
+    test_known_tokens();
     kill(daemon_pid, SIGTERM);
     waitpid(daemon_pid, NULL, 0);
     puts("all calls answer as they should");

@@ -4,6 +4,7 @@
 #include "check.h"
 #include "vlm_client.h"
 
+#include <inttypes.h>
 #include <pthread.h>
 #include <stdatomic.h>
 #include <stdio.h>
@@ -76,13 +77,26 @@ static uint32_t deq(vlm_client *client, const vlm_threads_request *request, uint
 static struct counter {
     char name[24];
     unsigned long count;
+    uint64_t token;
     int holders;
 } counters[COUNTERS];
 
-static uint8_t *count_up(struct counter *counter, uint8_t *value) {
+/* The client knows the token that the service tells, and it is greater than those of earlier holders. */
+static void check_token(vlm_client *client, uint32_t lkid, struct counter *counter) {
+    char *text;
+    uint64_t known, asked = 0;
+    CHECK(vlm_client_token(client, lkid, &known) == VLM_NORMAL && known > counter->token);
+    CHECK(vlm_client_read(client, "token", lkid, &text) == VLM_NORMAL);
+    CHECK(sscanf(text, "token %" SCNu64, &asked) == 1 && asked == known);
+    free(text);
+    counter->token = known;
+}
+
+static uint8_t *count_up(vlm_client *client, uint32_t lkid, struct counter *counter, uint8_t *value) {
     unsigned long found;
     memcpy(&found, value, sizeof found);
     CHECK(counter->holders++ == 0 && found == counter->count);
+    check_token(client, lkid, counter);
     counter->count++;
     memcpy(value, &counter->count, sizeof found);
     memcpy(value + 40, &counter->count, sizeof found);
@@ -130,7 +144,7 @@ static void lock_and_write(struct worker *worker, struct counter *counter, uint3
     uint32_t status = enq(worker->client, &request, counter->name);
     CHECK(status == VLM_NORMAL || (status == VLM_SYNCH && flags == VLM_SYNCSTS));
     CHECK(memcmp(value, value + 40, sizeof counter->count) == 0);
-    CHECK(deq(worker->client, &request, count_up(counter, value)) == VLM_NORMAL);
+    CHECK(deq(worker->client, &request, count_up(worker->client, request.lkid, counter, value)) == VLM_NORMAL);
 }
 
 /* Waits a moment. The cancel of a wait is a step, if it is still made. */
@@ -142,7 +156,7 @@ static void lock_shortly(struct worker *worker, struct counter *counter) {
     CHECK(status == VLM_NORMAL || status == VLM_TIMEOUT);
     cancels++;
     if (status == VLM_NORMAL)
-        CHECK(deq(worker->client, &request, count_up(counter, value)) == VLM_NORMAL);
+        CHECK(deq(worker->client, &request, count_up(worker->client, request.lkid, counter, value)) == VLM_NORMAL);
 }
 
 static void convert_and_write(struct worker *worker, struct counter *counter) {
@@ -151,7 +165,7 @@ static void convert_and_write(struct worker *worker, struct counter *counter) {
     CHECK(enq(worker->client, &request, counter->name) == VLM_NORMAL);
     request.flags = VLM_VALBLK | VLM_WIDE;
     CHECK(convert(worker->client, &request, VLM_EX) == VLM_NORMAL);
-    count_up(counter, value);
+    count_up(worker->client, request.lkid, counter, value);
     CHECK(convert(worker->client, &request, VLM_NL) == VLM_NORMAL);
     CHECK(deq(worker->client, &request, NULL) == VLM_NORMAL);
 }
@@ -167,7 +181,7 @@ static void start_and_write(struct worker *worker, struct counter *counter) {
           == VLM_NORMAL);
     await(worker, &worker->completions, before + 1);
     CHECK(worker->status == VLM_NORMAL);
-    CHECK(deq(worker->client, &request, count_up(counter, worker->value)) == VLM_NORMAL);
+    CHECK(deq(worker->client, &request, count_up(worker->client, request.lkid, counter, worker->value)) == VLM_NORMAL);
 }
 
 static void *work(void *argument) {

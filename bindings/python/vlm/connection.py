@@ -162,8 +162,8 @@ class Connection:
         self._client.processes.discard(pid)
 
     def token(self, lock: int) -> int:
-        """Asks the service for the fencing token of a lock: of its last request that was granted. A later grant has a
-        greater one. IvLockIdError: there is no such lock, or it waits for its first grant."""
+        """Tells the fencing token of a lock: of its last request that was granted. A later grant has a greater one.
+        IvLockIdError: there is no such lock, or it waits for its first grant."""
         token = c_uint64()
         self.call("token", word(lock, "the lock"), byref(token))
         return token.value
@@ -360,8 +360,8 @@ class ServedLock(HeldLock):
         self._routine, self.mode = request.routine, Mode(mode)
 
     def token(self) -> int:
-        """Asks the service for the fencing token of the lock, for storage that refuses a smaller one than it has seen.
-        A conversion takes another one."""
+        """Tells the fencing token of the lock, for storage that refuses a smaller one than it has seen. A conversion
+        takes another one."""
         return self.process.connection.token(self.lock)
 
     def release(self) -> None:
