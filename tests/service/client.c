@@ -830,6 +830,26 @@ static void test_ended_process(void) {
     }
 }
 
+/* What the texts of the service's own say to a call: limits, IDs and memory that have run out, and a text that is not
+ * known. */
+static void test_texts(void) {
+    static const struct row rows[] = {OPEN,
+                                      DECLARE,
+                                      {"enq", "no identifications left\n"},
+                                      {"enq", "too many waiting requests\n"},
+                                      {"enq", "old number\n"},
+                                      {"enq", "no memory\n"},
+                                      {"enq", "wrong word\n"},
+                                      {NULL, stays}};
+    static const uint32_t answers[] = {VLM_NOLOCKID, VLM_EXENQLM, VLM_EXENQLM, VLM_INSFMEM, VLM_BADPARAM};
+    vlm_client *client;
+    pthread_t thread = served(rows, &client);
+    vlm_threads_request request = wanted(declared(client), VLM_EX, 0);
+    for (size_t at = 0; at < sizeof answers / sizeof *answers; at++)
+        CHECK(enq(client, &request, "A") == answers[at] && request.lkid == 0 && request.status == 0);
+    end_service(thread, client);
+}
+
 /* While nothing was heard of the end of a conversion, another one of the lock is refused without a line: a wait for the
  * first that is too long would cancel it. */
 static void test_two_conversions(void) {
@@ -1040,6 +1060,18 @@ static void test_known_tokens(void) {
     end_service(thread, client);
 }
 
+/* With a service that answers by a table. */
+static void test_tables(void) {
+    test_half_answers();
+    test_half_event();
+    test_ended_process();
+    test_texts();
+    test_two_conversions();
+    test_late_lock();
+    test_signals();
+    test_known_tokens();
+}
+
 int main(int count, char **words) {
     if (count != 4)
         return 2;
@@ -1068,15 +1100,9 @@ int main(int count, char **words) {
     test_pending();
     test_settle();
     test_memory();
-    test_half_answers();
-    test_half_event();
-    test_ended_process();
-    test_two_conversions();
-    test_late_lock();
-    test_signals();
+    test_tables();
     test_readings();
     test_tokens();
-    test_known_tokens();
     kill(daemon_pid, SIGTERM);
     waitpid(daemon_pid, NULL, 0);
     puts("all calls answer as they should");
