@@ -8,10 +8,24 @@ from typing import Any, Callable, Optional, Type, TypeVar
 from . import _library as raw
 from .errors import ClosedError
 
-_T = TypeVar("_T", bound="Owner")
+_T = TypeVar("_T", bound="Closing")
 
 
-class Owner:
+class Closing:
+    """Leaving a `with` block closes it."""
+
+    def close(self) -> None:
+        raise NotImplementedError
+
+    def __enter__(self: _T) -> _T:
+        return self
+
+    def __exit__(self, kind: Optional[Type[BaseException]], error: Optional[BaseException],
+                 trace: Optional[TracebackType]) -> None:
+        self.close()
+
+
+class Owner(Closing):
     """Owns a handle. Each call takes its mutex."""
 
     def __init__(self, close: str) -> None:
@@ -48,10 +62,3 @@ class Owner:
     def is_closed(self) -> bool:
         """Whether `close` was called."""
         return not self._closing.alive
-
-    def __enter__(self: _T) -> _T:
-        return self
-
-    def __exit__(self, kind: Optional[Type[BaseException]], error: Optional[BaseException],
-                 trace: Optional[TracebackType]) -> None:
-        self.close()

@@ -35,11 +35,17 @@ def setting(pid: int, block: int, value: bytes, tail: Optional[bytes]) -> raw.Si
     return words
 
 
-def request(pid: int, which: Optional[Which], **numbers: int) -> raw.Sized:
-    """The words of a request without routines."""
+def request(pid: int, which: Optional[Which], completion: Optional[int], blocking: Optional[int],
+            **numbers: int) -> raw.Sized:
+    """The words of a request. Its routines are numbers."""
     lock, lock_kind = lock_named(which)
-    words = {name: word(number, name) for name, number in numbers.items()}
-    return raw.Request(pid=pid, lock=lock, lock_kind=lock_kind, **words)
+    given = {name: word(number, name) for name, number in numbers.items()}
+    words = raw.Request(pid=pid, lock=lock, lock_kind=lock_kind, **given)
+    if completion is not None:
+        words.has_ast, words.ast = 1, word(completion, "the routine")
+    if blocking is not None:
+        words.has_bast, words.bast = 1, word(blocking, "the routine")
+    return words
 
 
 def dequeue(pid: int, lock: Which, flags: DequeueFlags, value: Optional[bytes], tail: Optional[bytes]) -> raw.Sized:

@@ -8,13 +8,13 @@ from ctypes import addressof, byref, c_int, c_uint32, c_uint64, c_void_p, create
 from dataclasses import dataclass
 from itertools import count
 from math import ceil
-from types import TracebackType
 from typing import Any, Callable, Dict, Optional, Set, Type
 
 from . import _client as raw
 from ._arguments import flags_word, name_bytes, need_routines, part, seconds, word
 from ._asks import GRANTS, milliseconds
 from ._library import LOST, ROUTINE, VERSION, address_of
+from ._owner import Closing
 from .errors import BadParamError, DepartedError, LostError, NonExprError, VlmError, checked
 from .held import HeldLock
 from .values import Condition, DequeueFlags, Flags, Mode, Name
@@ -89,7 +89,7 @@ class _Client:
                 raw.call("close")(self._kept.pop())
 
 
-class Connection:
+class Connection(Closing):
     """A session of the lock service: `connect` makes it. Threads may share it. A forked child may not use it.
 
     Once the service or the session has ended, each call raises LostError: the locks are gone. `reopen` begins a new
@@ -140,13 +140,6 @@ class Connection:
     def reopen(self) -> None:
         """Begins a new session after a loss. The processes of the old one are gone: declare new ones."""
         self.call("reopen")
-
-    def __enter__(self) -> "Connection":
-        return self
-
-    def __exit__(self, kind: Optional[Type[BaseException]], error: Optional[BaseException],
-                 trace: Optional[TracebackType]) -> None:
-        self.close()
 
     def declare(self, *, quota: int = 1000, requests: int = 16) -> "ServedProcess":
         """Gives the session a process: how many locks it may have, and how many requests may be under way at once."""
@@ -338,26 +331,19 @@ class ServedLock(HeldLock):
                 blocking: Optional[Routine] = None) -> None:
         """Asks for another mode and waits for the grant. If it fails, the lock holds what it held. The blocking routine
         takes the place of the old one; without one the lock has none."""
-        process, is_written = self.process, self.mode >= Mode.PW and self._value is not None
+        process, value = self.process, self._written() if self._is_written_by(mode) else b""
         request = process.request(mode, self._flags_to(mode, flags), timeout, lock=self.lock, blocking=blocking,
-                                  value=self._written() if is_written else b"")
+                                  value=value)
         try:
             process.connection.call("convert", byref(request.words))
         finally:
             # (one that was granted may have been interrupted then)
             if request.words.status in GRANTS:
-                self._converted(mode, request, is_written)
+                process.forget(self._routine)
+                self._hold(mode, request)
+                self._routine = request.routine
             else:
                 process.forget(request.routine)
-
-    def _converted(self, mode: Mode, request: _Request, is_written: bool) -> None:
-        """The request for another mode was granted."""
-        self.process.forget(self._routine)
-        if self._is_read_by(mode):
-            self._granted = request
-        elif is_written:
-            self._value = self._tail = None
-        self._routine, self.mode = request.routine, Mode(mode)
 
     def token(self) -> int:
         """Tells the fencing token of the lock, for storage that refuses a smaller one than it has seen. A conversion

@@ -61,14 +61,26 @@ class HeldLock:
         """Whether a conversion to a mode returns the value block with VALBLK. Others write it, or do neither."""
         return mode >= self.mode and self.mode < Mode.PW or (self.mode, mode) == (Mode.PW, Mode.EX)
 
+    def _is_written_by(self, mode: Mode) -> bool:
+        """Whether a conversion to a mode writes the value that was named."""
+        return not self._is_read_by(mode) and self.mode >= Mode.PW and self._value is not None
+
     def _flags_to(self, mode: Mode, flags: Flags) -> int:
         """The flags of a conversion, by which it returns the value block, or writes the value that was named."""
         given = flags_word(flags)
         if self._is_read_by(mode):
             return given | Flags.VALBLK
-        if self.mode < Mode.PW or self._value is None:
+        if not self._is_written_by(mode):
             return given & ~_VALUE_FLAGS
         return given & ~_VALUE_FLAGS | (Flags.VALBLK if self._tail is None else _VALUE_FLAGS)
+
+    def _hold(self, mode: Mode, granted: Any) -> None:
+        """A request for another mode was granted."""
+        if self._is_read_by(mode):
+            self._granted = granted
+        elif self._is_written_by(mode):
+            self._value = self._tail = None
+        self.mode = Mode(mode)
 
     def _written(self) -> bytes:
         """The 64 bytes of what is to be written."""
@@ -141,19 +153,12 @@ class Held(HeldLock):
             asked.value[:] = self._written()
         return asked
 
-    def _is_written_by(self, mode: Mode) -> bool:
-        """Whether a conversion to a mode writes the value that was named."""
-        return not self._is_read_by(mode) and self.mode >= Mode.PW and self._value is not None
-
     def _converted(self, mode: Mode, asked: Asked, status: int) -> None:
         """The request for another mode has ended so."""
         if status != Condition.NORMAL:
             raise error_of(status)
-        if self._is_read_by(mode):
-            self._granted = asked
-        elif self._is_written_by(mode):
-            self._value = self._tail = None
-        self.mode, self._blocking = Mode(mode), asked.blocking
+        self._hold(mode, asked)
+        self._blocking = asked.blocking
 
     def _read_mode(self, mode: Mode, asked: Asked) -> None:
         """Looks whether a request for another mode was granted whose end is not told yet."""

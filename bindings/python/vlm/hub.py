@@ -171,13 +171,15 @@ class Port(Owner):
             param: int = 0) -> None:
         """Posts a request for a new lock ($ENQ). A routine is a number."""
         text = name_bytes(name)
-        words = _request(pid, parent, completion, blocking, mode=mode, flags=flags, block=block, param=param)
+        words = _words.request(word(pid, "the process"), parent, completion, blocking, mode=mode, flags=flags,
+                               block=block, param=param)
         self._post("vlm_port_enq", words, text, len(text))
 
     def convert(self, pid: int, lock: Which, mode: Mode, block: int, flags: Flags = Flags.NONE, *,
                 completion: Optional[int] = None, blocking: Optional[int] = None, param: int = 0) -> None:
         """Posts a request for another mode of a lock ($ENQ with CONVERT)."""
-        words = _request(pid, lock, completion, blocking, mode=mode, flags=flags, block=block, param=param)
+        words = _words.request(word(pid, "the process"), lock, completion, blocking, mode=mode, flags=flags,
+                               block=block, param=param)
         self._post("vlm_port_convert", words)
 
     def deq(self, pid: int, lock: Which, flags: DequeueFlags = DequeueFlags.NONE, *, value: Optional[bytes] = None,
@@ -210,16 +212,6 @@ class Port(Owner):
         items = c_size_t()
         checked(self._call("vlm_port_waiting", items))
         return items.value
-
-
-def _request(pid: int, which: Optional[Which], completion: Optional[int], blocking: Optional[int],
-             **numbers: int) -> raw.Sized:
-    words = _words.request(word(pid, "the process"), which, **numbers)
-    if completion is not None:
-        words.has_ast, words.ast = 1, word(completion, "the routine")
-    if blocking is not None:
-        words.has_bast, words.bast = 1, word(blocking, "the routine")
-    return words
 
 
 def _entries(words: Iterable[raw.Sized]) -> List[Entry]:

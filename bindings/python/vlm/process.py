@@ -1,7 +1,7 @@
 """A process, with its locks and status blocks."""
 
 from ctypes import c_size_t, c_uint32
-from typing import TYPE_CHECKING, Optional, Tuple
+from typing import TYPE_CHECKING, Optional
 
 from . import _library as raw
 from . import _words
@@ -29,8 +29,7 @@ class Process:
         block tells when the request ends. The routine `completion` is for its end, and `blocking` for when the lock is
         in the way of another request."""
         text, lkid = name_bytes(name), c_uint32()
-        words = self._request(parent, mode=mode, flags=flags, block=block, completion=completion, blocking=blocking,
-                              param=param)
+        words = _words.request(self.pid, parent, completion, blocking, mode=mode, flags=flags, block=block, param=param)
         condition = self.manager._step("vlm_enq", words, text, len(text), lkid)
         return Accepted(lkid.value, condition is Condition.SYNCH)
 
@@ -38,18 +37,9 @@ class Process:
                 completion: Optional[int] = None, blocking: Optional[int] = None, param: int = 0) -> Accepted:
         """Asks for another mode of a granted lock ($ENQ with CONVERT). Its routines take the place of the old ones."""
         lkid = c_uint32()
-        words = self._request(lock, mode=mode, flags=flags, block=block, completion=completion, blocking=blocking,
-                              param=param)
+        words = _words.request(self.pid, lock, completion, blocking, mode=mode, flags=flags, block=block, param=param)
         condition = self.manager._step("vlm_convert", words, lkid)
         return Accepted(lkid.value, condition is Condition.SYNCH)
-
-    def _request(self, which: Optional[Which], *, completion: Optional[int], blocking: Optional[int],
-                 **numbers: int) -> raw.Sized:
-        """The words of a request."""
-        words = _words.request(self.pid, which, **numbers)
-        words.has_ast, words.ast = _routine(completion)
-        words.has_bast, words.bast = _routine(blocking)
-        return words
 
     def deq(self, lock: Which, flags: DequeueFlags = DequeueFlags.NONE, *, value: Optional[bytes] = None,
             tail: Optional[bytes] = None) -> None:
@@ -86,11 +76,6 @@ class Process:
         pending = c_size_t()
         checked(self.manager._call("vlm_pending", self.pid, pending))
         return pending.value
-
-
-def _routine(number: Optional[int]) -> Tuple[int, int]:
-    """Whether there is a routine, and its number."""
-    return (0, 0) if number is None else (1, word(number, "the routine"))
 
 
 def ast_of(words: raw.Sized) -> Ast:

@@ -5,13 +5,13 @@ import threading
 import weakref
 from ctypes import byref, c_int, c_uint32, c_void_p
 from dataclasses import dataclass
-from types import TracebackType
-from typing import Any, Callable, Dict, List, NoReturn, Optional, Tuple, Type, TypeVar, Union
+from typing import Any, Callable, Dict, List, NoReturn, Optional, Tuple, TypeVar, Union
 
 from . import _library as raw
 from ._arguments import mark, word
 from ._asks import milliseconds
 from ._contexts import forget, keep, printed, read, replace, told_deadlock, told_wait
+from ._owner import Closing
 from ._words import options
 from .clients import Client
 from .errors import BadParamError, ClosedError, checked
@@ -111,7 +111,7 @@ def _leave_to_parent() -> None:
 os.register_at_fork(after_in_child=_leave_to_parent)
 
 
-class Shared:
+class Shared(Closing):
     """A lock manager of its own, which threads share: its calls wait for grants, wake each other and call routines. In
     a forked child it is closed.
 
@@ -182,13 +182,6 @@ class Shared:
     def is_closed(self) -> bool:
         """Whether `close` was called."""
         return self._is_closed
-
-    def __enter__(self) -> "Shared":
-        return self
-
-    def __exit__(self, kind: Optional[Type[BaseException]], error: Optional[BaseException],
-                 trace: Optional[TracebackType]) -> None:
-        self.close()
 
     def declare(self, node: int = 1, *, group: int = 0, quota: int = 65_535, requests: int = 16, syslck: bool = False,
                 tied: bool = False, own_queue: bool = False, label: str = "") -> Client:
