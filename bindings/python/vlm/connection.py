@@ -8,14 +8,14 @@ from ctypes import addressof, byref, c_int, c_uint32, c_uint64, c_void_p, create
 from dataclasses import dataclass
 from itertools import count
 from math import ceil
-from typing import Any, Callable, Dict, Optional, Set, Type
+from typing import Any, Callable, Dict, Optional, Set
 
 from . import _client as raw
 from ._arguments import flags_word, name_bytes, need_routines, part, seconds, word
 from ._asks import GRANTS, milliseconds
 from ._library import LOST, ROUTINE, VERSION, address_of
 from ._owner import Closing
-from .errors import BadParamError, DepartedError, LostError, NonExprError, VlmError, checked
+from .errors import BadParamError, LostError, VlmError, checked
 from .held import HeldLock
 from .values import Condition, DequeueFlags, Flags, Mode, Name
 
@@ -319,7 +319,7 @@ class ServedLock(HeldLock):
     LostError, since what was done in the block was not done under a lock to its end."""
 
     def __init__(self, process: ServedProcess, request: _Request, mode: Mode) -> None:
-        super().__init__(mode, request)
+        super().__init__(process, mode, request)
         self.process = process
         self._routine = request.routine
 
@@ -352,20 +352,8 @@ class ServedLock(HeldLock):
 
     def release(self) -> None:
         """Gives the lock up, and writes the value that was named. A second call does nothing."""
-        if self._is_held:
-            self.process.deq(self.lock, value=self._value, tail=self._tail)
-            self._is_held = False
-            self.process.forget(self._routine)
-
-    def __enter__(self) -> "ServedLock":
-        return self
-
-    def _leave(self, kind: Optional[Type[BaseException]]) -> None:
-        """A lock that is lost is an error, and one that went with its process is none."""
-        if kind is not None:
-            self._value = self._tail = None
-        with suppress(NonExprError, DepartedError, *([VlmError, LostError] if kind is not None else [])):
-            self.release()
+        super().release()
+        self.process.forget(self._routine)
 
 
 def connect(socket: Optional[str] = None, on_lost: Optional[Callable[[], object]] = None, *, lease: int = 0,

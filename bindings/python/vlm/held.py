@@ -2,7 +2,7 @@
 
 from contextlib import suppress
 from types import TracebackType
-from typing import TYPE_CHECKING, Any, Optional, Type
+from typing import TYPE_CHECKING, Any, Optional, Type, TypeVar
 
 from . import _library as raw
 from ._arguments import flags_word, part, word
@@ -15,13 +15,16 @@ if TYPE_CHECKING:
     from .clients import Client
 
 _VALUE_FLAGS = int(Flags.VALBLK | Flags.WIDE)
+_T = TypeVar("_T", bound="HeldLock")
 
 
 class HeldLock:
     """A held lock with its value block."""
 
-    def __init__(self, mode: Mode, granted: Any) -> None:
-        """`granted` is the request that was granted: its words, and the 64 bytes of its value block."""
+    def __init__(self, owner: Any, mode: Mode, granted: Any) -> None:
+        """The owner is the process. `granted` is the request that was granted: its words, and the 64 bytes of its value
+        block."""
+        self._owner = owner
         self.lock: int = granted.words.lkid
         self.mode = Mode(mode)
         self._is_held = True
@@ -88,17 +91,23 @@ class HeldLock:
 
     def release(self) -> None:
         """Gives the lock up, and writes the value that was named. A second call does nothing."""
-        raise NotImplementedError
+        if self._is_held:
+            self._owner.deq(self.lock, value=self._value, tail=self._tail)
+            self._is_held = False
 
-    def _leave(self, kind: Optional[Type[BaseException]]) -> None:
-        """Leaves a `with` block as its kind of lock does."""
-        raise NotImplementedError
+    def __enter__(self: _T) -> _T:
+        return self
 
     def __exit__(self, kind: Optional[Type[BaseException]], error: Optional[BaseException],
                  trace: Optional[TracebackType]) -> None:
-        """Gives the lock up. After an exception it writes nothing, and raises no other one."""
+        """Gives the lock up. After an exception it writes nothing, and raises no other one. A lock that went with its
+        process is no error, and one that is lost is."""
+        silenced = (VlmError, LostError) if kind is not None else ()
         try:
-            self._leave(kind)
+            if kind is not None:
+                self._value = self._tail = None
+            with suppress(NonExprError, DepartedError, ClosedError, *silenced):
+                self.release()
         except BaseException:
             # (Ctrl-C may have come before the lock was given up)
             with suppress(VlmError, LostError, ClosedError):
@@ -110,7 +119,7 @@ class Held(HeldLock):
     """A lock that `Client.lock` was granted. Leaving its `with` block gives it up."""
 
     def __init__(self, client: "Client", mode: Mode, asked: Asked) -> None:
-        super().__init__(mode, asked)
+        super().__init__(client, mode, asked)
         self.client = client
         self._blocking = asked.blocking
 
@@ -168,19 +177,3 @@ class Held(HeldLock):
                 if self._is_written_by(mode):
                     self._value = self._tail = None
                 self.mode, self._blocking = Mode(mode), asked.blocking
-
-    def release(self) -> None:
-        """Gives the lock up, and writes the value that was named. A second call does nothing."""
-        if self._is_held:
-            self.client.deq(self.lock, value=self._value, tail=self._tail)
-            self._is_held = False
-
-    def __enter__(self) -> "Held":
-        return self
-
-    def _leave(self, kind: Optional[Type[BaseException]]) -> None:
-        """A lock that went with its process is no error."""
-        if kind is not None:
-            self._value = self._tail = None
-        with suppress(NonExprError, DepartedError, ClosedError, *([VlmError] if kind is not None else [])):
-            self.release()
