@@ -63,6 +63,24 @@ flags! {
     }
 }
 
+impl EnqFlags {
+    /// Those of a request that waits or has a completion routine. Each grant is told alike, so without SYNCSTS.
+    pub(crate) fn waiting(self) -> EnqFlags {
+        EnqFlags(self.0 & !EnqFlags::SYNCSTS.0)
+    }
+
+    /// Those of a conversion that writes a value, with or without a tail, or nothing.
+    pub(crate) fn writing(self, has_tail: Option<bool>) -> EnqFlags {
+        let value_flags = EnqFlags::VALBLK | EnqFlags::WIDE;
+        let others = EnqFlags(self.0 & !value_flags.0);
+        match has_tail {
+            Some(true) => others | value_flags,
+            Some(false) => others | EnqFlags::VALBLK,
+            None => others,
+        }
+    }
+}
+
 flags! {
     /// Flags of a dequeue ($DEQ, flags). They are joined by `|`.
     DeqFlags of "A dequeue" {

@@ -29,6 +29,14 @@ pub enum Mode {
     Ex,
 }
 
+impl Mode {
+    /// Whether a conversion to a mode returns the value block with VALBLK. Others write it, or do neither.
+    pub(crate) fn is_read_by(self, mode: Mode) -> bool {
+        let is_writer = self >= Mode::Pw;
+        (mode >= self && !is_writer) || (self, mode) == (Mode::Pw, Mode::Ex)
+    }
+}
+
 /// The mode of a number; none for 255.
 pub(crate) fn mode_of(number: u32) -> Option<Mode> {
     [Mode::Nl, Mode::Cr, Mode::Cw, Mode::Pr, Mode::Pw, Mode::Ex]

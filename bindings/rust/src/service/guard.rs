@@ -98,11 +98,12 @@ impl ServedGuard {
     /// Asks for another mode and waits for the grant. If it fails, the lock holds what it held, unless it is lost. A
     /// blocking routine among the terms takes the place of the old one; without one the lock has none.
     pub fn convert(&mut self, mode: Mode, terms: Terms) -> Result<(), Error> {
-        let is_writer = self.mode >= Mode::Pw;
-        let is_read =
-            (mode >= self.mode && !is_writer) || (self.mode, mode) == (Mode::Pw, Mode::Ex);
-        let written = self.written.filter(|_| is_writer && !is_read);
-        let flags = flags_of(terms.flags, is_read, written.map(|(_, is_wide)| is_wide));
+        let is_read = self.mode.is_read_by(mode);
+        let written = self.written.filter(|_| self.mode >= Mode::Pw && !is_read);
+        let flags = match is_read {
+            true => terms.flags.waiting() | EnqFlags::VALBLK,
+            false => terms.flags.waiting().writing(written.map(|it| it.1)),
+        };
         let blocking = self.connection.blocking_of(self.process, terms.blocking);
         let wanted = Wanted {
             process: self.process.0,
@@ -151,18 +152,6 @@ impl ServedGuard {
         self.is_held = false;
         self.blocking = 0;
         self.lock
-    }
-}
-
-/// The flags of a conversion, by which it returns the value block or writes what was named.
-fn flags_of(flags: EnqFlags, is_read: bool, written: Option<bool>) -> EnqFlags {
-    let value_flags = EnqFlags::VALBLK | EnqFlags::WIDE;
-    let others = EnqFlags(flags.0 & !(value_flags | EnqFlags::SYNCSTS).0);
-    match written {
-        _ if is_read => EnqFlags(flags.0 & !EnqFlags::SYNCSTS.0) | EnqFlags::VALBLK,
-        Some(true) => others | value_flags,
-        Some(false) => others | EnqFlags::VALBLK,
-        None => others,
     }
 }
 

@@ -175,7 +175,7 @@ impl Connection {
         mode: Mode,
         terms: Terms,
     ) -> Result<ServedGuard, Error> {
-        let flags = EnqFlags(terms.flags.0 & !EnqFlags::SYNCSTS.0) | EnqFlags::VALBLK;
+        let flags = terms.flags.waiting() | EnqFlags::VALBLK;
         let lock = terms.served_parent()?;
         let blocking = self.blocking_of(process, terms.blocking);
         let wanted = Wanted {
@@ -212,7 +212,7 @@ impl Connection {
         let lock = terms.served_parent()?;
         let routine = Known::Completion(Arc::new(Mutex::new(completion)));
         let number = self.client().number_of(process.0, routine);
-        let flags = EnqFlags(terms.flags.0 & !EnqFlags::SYNCSTS.0) | EnqFlags::VALBLK;
+        let flags = terms.flags.waiting() | EnqFlags::VALBLK;
         let wanted = Wanted {
             process: process.0,
             mode: mode as u32,

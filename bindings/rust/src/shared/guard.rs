@@ -237,12 +237,12 @@ impl Guard {
     pub(super) fn conversion(&self, mode: Mode, terms: Terms) -> Conversion {
         let written = self.held.written().as_deref().copied();
         let written = written.filter(|_| self.mode >= Mode::Pw);
-        let (is_read, has_value) = (self.is_read_by(mode), self.granted.is_some());
+        let (is_read, has_value) = (self.mode.is_read_by(mode), self.granted.is_some());
         let mut asked = Asked::convert(self.process(), self.lock(), mode, terms);
         asked.flags = match is_read {
             true if has_value => asked.flags | EnqFlags::VALBLK,
             true => asked.flags,
-            false => writing_flags(asked.flags, &written),
+            false => asked.flags.writing(written.map(|(_, tail)| tail.is_some())),
         };
         asked.blocking = asked.blocking.or_else(|| self.blocking.clone());
         Conversion {
@@ -279,12 +279,6 @@ impl Guard {
         &self.held.shared
     }
 
-    /// Whether a conversion to a mode returns the value block with VALBLK. Others write it, or do neither.
-    fn is_read_by(&self, mode: Mode) -> bool {
-        let is_writer = self.mode >= Mode::Pw;
-        (mode >= self.mode && !is_writer) || (self.mode, mode) == (Mode::Pw, Mode::Ex)
-    }
-
     /// Gives the lock up, and writes the value that was named. A second call does nothing. If it is refused, the guard
     /// has the lock still. SUBLOCKS; IVLOCKID: another call gave it up; NONEXPR, DEPARTED: its process has ended.
     pub fn release(&mut self) -> Result<(), Error> {
@@ -296,17 +290,6 @@ impl Guard {
     pub fn keep(self) -> LockId {
         self.held.is_held.store(false, Relaxed);
         self.lock()
-    }
-}
-
-/// The flags of a conversion that writes what was named.
-fn writing_flags(flags: EnqFlags, written: &Option<Value>) -> EnqFlags {
-    let value_flags = EnqFlags::VALBLK | EnqFlags::WIDE;
-    let others = EnqFlags(flags.0 & !value_flags.0);
-    match written {
-        Some((_, Some(_))) => others | value_flags,
-        Some((_, None)) => others | EnqFlags::VALBLK,
-        None => others,
     }
 }
 

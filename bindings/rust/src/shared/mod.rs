@@ -93,7 +93,7 @@ impl<'a> Asked<'a> {
             name: Some(name),
             lock: terms.parent,
             mode,
-            flags: EnqFlags(terms.flags.0 & !EnqFlags::SYNCSTS.0),
+            flags: terms.flags.waiting(),
             longest: terms.longest,
             blocking: terms.blocking,
             kept: terms.kept,
