@@ -2,7 +2,6 @@
 #include "vlm_client_parts.h"
 #include "vlm_descriptors.h"
 
-#include <signal.h>
 #include <stdio.h>
 #include <stdlib.h>
 #include <string.h>
@@ -111,16 +110,6 @@ static vlm_client *made(const vlm_client_options *options) {
     return NULL;
 }
 
-/* Starts a thread to which no signal is delivered. */
-static bool start(pthread_t *thread, void *(*routine)(void *), vlm_client *client) {
-    sigset_t all, before;
-    sigfillset(&all);
-    pthread_sigmask(SIG_SETMASK, &all, &before);
-    bool is_started = pthread_create(thread, NULL, routine, client) == 0;
-    pthread_sigmask(SIG_SETMASK, &before, NULL);
-    return is_started;
-}
-
 /* Ends the connection and the threads. */
 static void stop(vlm_client *client) {
     pthread_mutex_lock(&client->state);
@@ -143,9 +132,9 @@ static uint32_t open_session(const vlm_client_options *options, vlm_client **cli
         return VLM_INSFMEM;
     uint32_t status = vlmc_connect(opened);
     if (status == VLM_NORMAL) {
-        opened->has_reader = start(&opened->reader, vlmc_read, opened);
+        opened->has_reader = start_thread(&opened->reader, vlmc_read, opened);
         if (options->delivery == VLM_THREADS_BY_LAYER)
-            opened->has_deliverer = start(&opened->deliverer, vlmc_deliver, opened);
+            opened->has_deliverer = start_thread(&opened->deliverer, vlmc_deliver, opened);
         if (!opened->has_reader || (options->delivery == VLM_THREADS_BY_LAYER && !opened->has_deliverer))
             status = VLM_INSFMEM;
     }
@@ -160,19 +149,10 @@ static uint32_t open_session(const vlm_client_options *options, vlm_client **cli
     return VLM_NORMAL;
 }
 
-/* Copies options. An older header may have made them shorter. */
-static bool is_copied(vlm_client_options *whole, const vlm_client_options *options) {
-    *whole = (vlm_client_options){0};
-    if (!is_sized(options->size, FIRST_CLIENT_OPTIONS, sizeof *whole))
-        return false;
-    memcpy(whole, options, options->size);
-    return is_valid(whole);
-}
-
 uint32_t vlm_client_open(const vlm_client_options *options, vlm_client **client) {
     vlm_client_options whole;
     *client = NULL;
-    if (!is_copied(&whole, options))
+    if (!is_copied(&whole, sizeof whole, options, FIRST_CLIENT_OPTIONS) || !is_valid(&whole))
         return VLM_BADPARAM;
     int before = cancels_off();
     uint32_t status = open_session(&whole, client);
@@ -215,7 +195,7 @@ static uint32_t begin_again(vlm_client *client) {
     if (vlmc_connect(client) != VLM_NORMAL)
         return VLM_LOST;
     forget(client);
-    client->has_reader = start(&client->reader, vlmc_read, client);
+    client->has_reader = start_thread(&client->reader, vlmc_read, client);
     if (client->has_reader)
         return VLM_NORMAL;
     pthread_mutex_lock(&client->state);
@@ -239,7 +219,7 @@ uint32_t vlm_client_reopen(vlm_client *client) {
  * call is under way until the reader has ended. */
 static void close_session(vlm_client *client, struct call *call) {
     const struct pending wanted = {CLOSED, call, NO_RECORD, 0};
-    struct timespec until = vlmc_moment_after(vlmc_patience(client));
+    struct timespec until = moment_at(now() + milliseconds((uint32_t)vlmc_patience(client)));
     if (vlmc_send(client, "close\n", &wanted, 1) != VLM_NORMAL)
         return;
     pthread_mutex_lock(&client->state);

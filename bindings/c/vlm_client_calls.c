@@ -5,7 +5,6 @@
 #include <stdlib.h>
 #include <string.h>
 #include <sys/socket.h>
-#include <time.h>
 
 static bool make_room(vlm_client *client, uint32_t more) {
     if (client->count + more <= client->room)
@@ -112,16 +111,4 @@ uint32_t vlmc_ask(vlm_client *client, struct call *call, const char *line, uint3
     }
     pthread_cond_destroy(&call->changed);
     return status;
-}
-
-struct timespec vlmc_moment_after(uint64_t milliseconds) {
-    struct timespec moment;
-    clock_gettime(CLOCK_MONOTONIC, &moment);
-    moment.tv_sec += (time_t)(milliseconds / 1000);
-    moment.tv_nsec += (long)(milliseconds % 1000) * 1000000;
-    if (moment.tv_nsec >= 1000000000) {
-        moment.tv_sec++;
-        moment.tv_nsec -= 1000000000;
-    }
-    return moment;
 }

@@ -90,7 +90,7 @@ static bool is_stale(const vlm_client *client, const struct event *event) {
 /* A grant is not told once the locks are lost. */
 static void look_at_lease(const vlm_client *client, struct event *event) {
     vlm_threads_event *told = &event->told;
-    if (told->kind != VLM_COMPLETION || !vlmc_is_grant(told->status) || !vlmc_is_gone(client, event->session))
+    if (told->kind != VLM_COMPLETION || !is_grant(told->status) || !vlmc_is_gone(client, event->session))
         return;
     told->status = VLM_LOST;
     told->value_len = event->tail_of = 0;

@@ -36,13 +36,13 @@
 
 #include "vlm_client.h"
 #include "vlm_client_tls.h"
+#include "vlm_own_threads.h"
 #include "vlm_sizes.h"
 
-#include <pthread.h>
 #include <sys/socket.h>
 #include <sys/types.h>
 
-enum { MOST_REQUESTS = 255, SHORT_VALUE = 16, WHOLE_VALUE = 64, LINE_ROOM = 512, LINES_ROOM = 1024 };
+enum { MOST_REQUESTS = 255, LINE_ROOM = 512, LINES_ROOM = 1024 };
 
 /* With a lease: how many lines may be under way, and what the queue has room for: those of calls, an `alive` and a
  * `close`. */
@@ -271,10 +271,8 @@ uint64_t vlmc_number_after(const char *line, const char *word);
 /* vlm_client_readings.c */
 bool vlmc_read_line(vlm_client *client, struct call *call, const char *line);
 
-/* vlm_client_calls.c. vlmc_ask begins a call, sends its line and waits for its answer; it takes no mutex held, as does
- * vlmc_moment_after. */
+/* vlm_client_calls.c. vlmc_ask begins a call, sends its line and waits for its answer; it takes no mutex held. */
 void vlmc_begin_call(struct call *call, uint32_t answers);
-struct timespec vlmc_moment_after(uint64_t milliseconds);
 uint32_t vlmc_ask(vlm_client *client, struct call *call, const char *line, uint32_t taken);
 
 /* vlm_client_records.c. vlmc_find_lock finds the lock of a process, or with pid 0 of any. */
@@ -285,7 +283,6 @@ void vlmc_free_record(vlm_client *client, uint32_t place);
 void vlmc_accept(vlm_client *client, uint32_t place, uint32_t lkid);
 void vlmc_grant_at_once(vlm_client *client, uint32_t place);
 void vlmc_end(vlm_client *client, uint32_t place, uint32_t status);
-bool vlmc_is_grant(uint32_t status);
 
 /* vlm_client_requests.c. vlmc_standing tells whether a process may make calls: NORMAL, VLM_LOST, NONEXPR. vlmc_forget
  * forgets the locks that a dequeue has given up. vlmc_read_tail reads the tail of an event's value from its status
@@ -301,14 +298,5 @@ void vlmc_tell_loss(vlm_client *client);
 void *vlmc_deliver(void *client);
 void vlmc_drop_events(vlm_client *client);
 void vlmc_drop_events_of(vlm_client *client, uint32_t pid);
-
-/* Between these two the thread is not cancelled: it would leave a mutex locked. */
-static inline int cancels_off(void) {
-    int before;
-    pthread_setcancelstate(PTHREAD_CANCEL_DISABLE, &before);
-    return before;
-}
-
-static inline void cancels_back(int before) { pthread_setcancelstate(before, NULL); }
 
 #endif

@@ -166,7 +166,7 @@ static bool read_completion(vlm_client *client, struct lines *lines, struct ast 
     if (line == NULL)
         return false;
     vlmc_read_block(ast, line);
-    if (!vlmc_is_grant(ast->status))
+    if (!is_grant(ast->status))
         return true;
     line = next_line(client, lines);
     ast->token = line != NULL ? vlmc_number_after(line, " token ") : 0;

@@ -94,10 +94,6 @@ void vlmc_accept(vlm_client *client, uint32_t place, uint32_t lkid) {
         link_lock(client, place);
 }
 
-bool vlmc_is_grant(uint32_t status) {
-    return status == VLM_NORMAL || status == VLM_VALNOTVALID || status == VLM_WIDENOTVALID;
-}
-
 static bool has_tail(const struct record *record) {
     return record->is_granted && (record->flags & VLM_VALBLK) != 0 && (record->flags & VLM_WIDE) != 0;
 }
@@ -134,7 +130,7 @@ void vlmc_grant_at_once(vlm_client *client, uint32_t place) {
 void vlmc_end(vlm_client *client, uint32_t place, uint32_t status) {
     struct record *record = &client->records[place];
     record->status = status;
-    if (vlmc_is_grant(status))
+    if (is_grant(status))
         grant(client, record);
     if (!has_tail(record))
         vlmc_free_block(client, record->pid, record->block);

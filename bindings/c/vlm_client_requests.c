@@ -5,7 +5,6 @@
 #include <inttypes.h>
 #include <stdio.h>
 #include <string.h>
-#include <time.h>
 
 enum { MOST_LINES = 4, MOST_BITS = 65535, NAME_BYTES = 32 };
 
@@ -171,7 +170,7 @@ static void cancel(vlm_client *client, const vlm_threads_request *request, const
 
 /* Waits for the end of an accepted request. A wait that is too long cancels it; a grant that came before counts. */
 static uint32_t await_end(vlm_client *client, const vlm_threads_request *request, struct call *call) {
-    struct timespec until = vlmc_moment_after(request->milliseconds);
+    struct timespec until = moment_at(now() + milliseconds(request->milliseconds));
     pthread_mutex_lock(&client->state);
     bool is_ended = wait_for_end(client, call, request->milliseconds != 0 ? &until : NULL);
     pthread_mutex_unlock(&client->state);
@@ -181,7 +180,7 @@ static uint32_t await_end(vlm_client *client, const vlm_threads_request *request
         wait_for_end(client, call, NULL);
         pthread_mutex_unlock(&client->state);
     }
-    if (vlmc_is_grant(call->status))
+    if (is_grant(call->status))
         return VLM_NORMAL;
     if (is_ended || call->status == VLM_LOST || call->status == VLM_NONEXPR)
         return call->status;
@@ -217,11 +216,11 @@ void vlmc_read_tail(vlm_client *client, struct event *event) {
 
 /* Writes what a request returns. */
 static void give(vlm_threads_request *request, const struct call *call, bool is_conversion) {
-    bool is_grant = vlmc_is_grant(call->status),
+    bool is_granted = is_grant(call->status),
          is_gone = call->status == VLM_ABORT || call->status == VLM_LOST || call->status == VLM_NONEXPR;
     request->status = call->status;
-    request->lkid = is_grant || (is_conversion && !is_gone) ? (uint32_t)call->handle : 0;
-    if (is_grant && (request->flags & VLM_VALBLK) != 0)
+    request->lkid = is_granted || (is_conversion && !is_gone) ? (uint32_t)call->handle : 0;
+    if (is_granted && (request->flags & VLM_VALBLK) != 0)
         memcpy(request->value, call->value, (request->flags & VLM_WIDE) != 0 ? WHOLE_VALUE : SHORT_VALUE);
 }
 

@@ -1,7 +1,6 @@
 /* The layer for threads, vlm_threads.h: opening and closing, readers and counters. Not proved. */
 #include "vlm_threads_parts.h"
 
-#include <signal.h>
 #include <stdlib.h>
 #include <sys/eventfd.h>
 #include <unistd.h>
@@ -25,16 +24,6 @@ uint32_t vlm_threads_look(vlm_threads *layer, vlm_threads_reader reader, void *c
 }
 
 /* Opening and closing. */
-
-/* Starts a thread of the layer, with all signals blocked. */
-static bool start_thread(pthread_t *thread, void *(*run)(void *), vlm_threads *layer) {
-    sigset_t all, before;
-    sigfillset(&all);
-    pthread_sigmask(SIG_SETMASK, &all, &before);
-    int failed = pthread_create(thread, NULL, run, layer);
-    pthread_sigmask(SIG_SETMASK, &before, NULL);
-    return !failed;
-}
 
 static void make_primitives(vlm_threads *layer) {
     vlmt_make_mutex(&layer->mutex);

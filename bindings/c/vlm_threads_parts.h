@@ -26,17 +26,12 @@
 #include "vlm_descriptors.h"
 #include "vlm_sizes.h"
 
-#include <pthread.h>
 #include <stdatomic.h>
-#include <string.h>
-#include <time.h>
 
-enum { SHORT_VALUE = VLM_VALUE_BYTES, WHOLE_VALUE = VLM_VALUE_BYTES + VLM_TAIL_BYTES, CACHE_LINE = 64 };
+enum { CACHE_LINE = 64 };
 
 /* The kind of an event that calls a `released` routine, beside those of ASTs. */
 enum { RELEASED = 3 };
-
-static const uint64_t NANOSECONDS = 1000000000;
 
 /* A wait that is shorter than this is short. So long a thread looks whether its request has ended, before it sleeps. */
 enum { LOOK_MICROSECONDS = 50, MOST_SHORT = 16 };
@@ -319,46 +314,6 @@ void *vlmt_watch(void *layer);
 struct request *vlmt_victim(vlm_threads *layer);
 void vlmt_read_cycle(vlm_threads *layer, struct request *victim, vlm_threads_deadlock *deadlock);
 void vlmt_read_wait(vlm_threads *layer, const struct request *request, uint32_t blocker, vlm_threads_wait *wait);
-
-/* Copies a struct of the caller's: whether its size is right. The members that it lacks are 0. */
-static inline bool is_copied(void *whole, size_t size, const void *given, size_t first) {
-    uint32_t given_size = *(const uint32_t *)given;
-    if (given_size != size) {
-        if (!is_sized(given_size, first, size))
-            return false;
-        memset(whole, 0, size);
-        memcpy(whole, given, given_size);
-        return true;
-    }
-    memcpy(whole, given, size);
-    return true;
-}
-
-static inline uint64_t now(void) {
-    struct timespec time;
-    clock_gettime(CLOCK_MONOTONIC, &time);
-    return (uint64_t)time.tv_sec * NANOSECONDS + (uint64_t)time.tv_nsec;
-}
-
-static inline uint64_t milliseconds(uint32_t count) { return (uint64_t)count * 1000000; }
-
-static inline struct timespec moment_at(uint64_t nanoseconds) {
-    return (struct timespec){.tv_sec = (time_t)(nanoseconds / NANOSECONDS),
-                             .tv_nsec = (long)(nanoseconds % NANOSECONDS)};
-}
-
-/* Between these two the thread is not cancelled: it would leave the mutex locked, or a delivery unfinished. */
-static inline int cancels_off(void) {
-    int before;
-    pthread_setcancelstate(PTHREAD_CANCEL_DISABLE, &before);
-    return before;
-}
-
-static inline void cancels_back(int before) { pthread_setcancelstate(before, NULL); }
-
-static inline bool is_grant(uint32_t status) {
-    return status == VLM_NORMAL || status == VLM_VALNOTVALID || status == VLM_WIDENOTVALID;
-}
 
 static inline struct process *process_of(vlm_threads *layer, uint32_t pid) {
     return (struct process *)vlmt_found(&layer->processes, pid);
