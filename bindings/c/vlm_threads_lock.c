@@ -23,8 +23,8 @@
 enum { PAUSES = 2000, MOST_AT_ONCE = 512, YIELDS = 8 };
 
 /* A thread that looks at a condition pauses this often between two looks. One that has told such a thread of its grant
- * pauses this often when it has let the mutex go, so that the other one takes it first. Else the two often change places
- * at each pair of calls, and the memory of the lock moves from one processor to the other each time. */
+ * pauses this often when it has let the mutex go, so that the other one takes it first. Else the two often change
+ * places at each pair of calls, and the memory of the lock moves from one processor to the other each time. */
 enum { LOOK_PAUSES = 4, TOLD_PAUSES = 50 };
 
 static void pause_often(int times) {
