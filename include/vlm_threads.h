@@ -30,10 +30,10 @@
  *
  * Threads. Any thread may make any call for any process, at any time between opening and closing; so may a routine,
  * except where a comment says otherwise. A call holds the layer's mutex while it works, and gives it up while it
- * sleeps. Only vlm_threads_enq, vlm_threads_convert, vlm_threads_settle and vlm_threads_close sleep. A thread that
- * waits for a grant first looks for it for 50 microseconds, if most of the last waits were shorter; then it sleeps. A
- * thread that is cancelled by pthread_cancel during a call ends after it, if its cancelability type is deferred, as it
- * is by default.
+ * sleeps. Only vlm_threads_enq, vlm_threads_convert, vlm_threads_settle and vlm_threads_close sleep. Before a thread
+ * sleeps for a grant, it looks for it for up to 50 microseconds, if most of the last waits were shorter and fewer
+ * requests wait than the program has processors. A thread that is cancelled by pthread_cancel during a call ends after
+ * it, if its cancelability type is deferred, as it is by default.
  *
  * Memory. A call asks for all memory before its step. If memory is refused, it answers VLM_INSFMEM and nothing has
  * changed. Giving up, ending, searching and waking need none. A lock with its request takes about 400 bytes here beside
