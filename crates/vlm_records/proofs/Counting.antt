@@ -25,7 +25,7 @@ use Rattle.vlm_records.specs.Armed.{IsLaidOut}
 use Rattle.vlm_records.specs.Kept.{Recounts}
 use Rattle.vlm_records.specs.Shown.{IsPlaced, IsTallied, SameBut, but_lists, handles_at, handles_but, list_at, noted}
 use Rattle.vlm_records.specs.Shown.{noted_in, own_share, queue_links, row_in, rows, share_of, shares, tally_in}
-use Rattle.vlm_records.specs.Tallies.{Count, counted_request, how_many, is_mode, one_if, total, weight_of}
+use Rattle.vlm_records.specs.Tallies.{Count, counted_request, has_mode, how_many, is_mode, one_if, total, weight_of}
 use Rattle.vlm_records.proofs.Totals.{total-length}
 use Rattle.vlm_records.proofs.Families.{family-grown, family-shrunk}
 use Rattle.vlm_records.proofs.PlacesOnLists.{lists_same, noted_as, noted_is, one_place, place_cases, tally_but_lists}
@@ -249,6 +249,18 @@ one_if-le false = omega arith
 
 pub weight_of-le : (count : Count) (mode : Mode) (queue : Queue) (row : LockState) → weight_of count mode queue row ≤ 1
 weight_of-le count mode queue row = one_if-le (is_mode mode (counted_request count queue row))
+
+-- a count that grew by a lock's mode grew by what the lock weighs
+pub more_by : (count : Count) (mode : Mode) (was now : Tally) (counted request : Option Mode) → counted ≡ request
+    → how_many count now mode ≡ how_many count was mode + one_if (has_mode mode counted)
+    → how_many count now mode ≡ how_many count was mode + one_if (has_mode mode request)
+more_by count mode was now counted request same more = more ∙ ap (λ m. how_many count was mode + one_if (has_mode mode m)) same
+
+-- a count that shrank by a lock's mode shrank by what the lock weighs
+pub less_by : (count : Count) (mode : Mode) (was now : Tally) (counted request : Option Mode) → counted ≡ request
+    → how_many count now mode + one_if (has_mode mode counted) ≡ how_many count was mode
+    → how_many count now mode + one_if (has_mode mode request) ≡ how_many count was mode
+less_by count mode was now counted request same less = ap (λ m. how_many count now mode + one_if (has_mode mode m)) (sym same) ∙ less
 
 pub without-twice : (at : ℕ) (ks : List ℕ) → without at (without at ks) ≡ without at ks
 without-twice at ks = without_absent at (without at ks) (λ found. (IsIn-without at at ks found).1 refl)

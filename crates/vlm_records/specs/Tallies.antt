@@ -7,6 +7,7 @@ use Rattle.vlm_words.specs.declared.modes.Mode.TheVariants.{Nl, Cr, Cw, Pr, Pw, 
 use Rattle.vlm_words.specs.declared.resources.Queue.{Queue}
 use Rattle.vlm_words.specs.declared.resources.Queue.TheVariants.{Granted, Conversion, Waiting}
 use Rattle.vlm_words.specs.Modes.{is_compatible, rank}
+use Rattle.vlm_records.specs.declared.tallies.Counted.{Counted}
 use Rattle.vlm_records.specs.declared.tallies.Tally.{Tally}
 
 -- the two counts: of held modes and of wanted modes
@@ -14,10 +15,19 @@ pub data Count : Type 0 where
   of_held : Count
   of_wanted : Count
 
+-- the mode of a request
+abbrev pub mode_in : Option Request → Option Mode
+mode_in None = None
+mode_in (Some request) = Some request.mode
+
+-- it is this mode
+abbrev pub has_mode : Mode → Option Mode → Bool
+has_mode mode None = false
+has_mode mode (Some other) = rank other == rank mode
+
 -- the request is for this mode
 abbrev pub is_mode : Mode → Option Request → Bool
-is_mode mode None = false
-is_mode mode (Some request) = rank request.mode == rank mode
+is_mode mode request = has_mode mode (mode_in request)
 
 -- 1 if b is true, else 0
 abbrev pub one_if : Bool → ℕ
@@ -33,8 +43,8 @@ how_many of_held tally mode = count_of tally.held mode
 how_many of_wanted tally mode = count_of tally.wanted mode
 
 -- how many locks hold a mode, except one that holds `own`
-abbrev pub held_beside : Option Request → Tally → Mode → ℕ
-held_beside own tally mode = how_many of_held tally mode - one_if (is_mode mode own)
+abbrev pub held_beside : Option Mode → Tally → Mode → ℕ
+held_beside own tally mode = how_many of_held tally mode - one_if (has_mode mode own)
 
 -- the counts of the six modes, from NL to EX
 abbrev pub by_mode : (Mode → ℕ) → List ℕ
@@ -48,6 +58,11 @@ counted_request of_held Waiting row = None
 counted_request of_wanted Granted row = None
 counted_request of_wanted Conversion row = row.want
 counted_request of_wanted Waiting row = row.want
+
+-- the held or the wanted one of two modes
+abbrev pub counted_mode : Count → Counted → Option Mode
+counted_mode of_held counted = counted.held
+counted_mode of_wanted counted = counted.wanted
 
 -- what a lock in a queue adds to the count of a mode
 abbrev pub weight_of : Count → Mode → Queue → LockState → ℕ

@@ -6,7 +6,7 @@ ghost use Rattle.slab.specs.Slab.{ContainsKey};
 ghost use Rattle.vlm_words.specs.declared.modes.Mode.{Mode};
 ghost use Rattle.vlm_words.specs.declared.resources.Queue.{Queue};
 ghost use Rattle.vlm_records.specs.declared.handles.Place.{Place};
-ghost use Rattle.vlm_records.specs.Tallies.{is_mode, one_if, weight_of};
+ghost use Rattle.vlm_records.specs.Tallies.{has_mode, one_if, weight_of};
 ghost use Rattle.vlm_records.specs.Tallies.Count.{of_held};
 ghost use Rattle.vlm_records.specs.Kept.{Recounts, WritesCounts};
 ghost use Rattle.vlm_records.specs.Shown.{IsPlaced, IsTallied, handles_but, handles_fit, noted, own_share, rows};
@@ -15,13 +15,13 @@ use crate::handles::{LockAt, ResAt};
 use crate::locks::Lock;
 use crate::queues::Queues;
 use crate::rows::StoredState;
-use vlm_words::locks::Request;
+use crate::tallies::Counted;
 use vlm_words::modes::Mode;
 use vlm_words::resources::Queue;
 
-// The request that the lock holds on this resource; nothing if the lock is on another resource, waits or is loose.
-fn held_on(res: ResAt, lock: &Lock) -> Option<Request>
-    ensures { (mode : Mode) → one_if (is_mode mode result)
+// The mode that the lock holds on this resource; none if the lock is on another resource, waits or is loose.
+fn held_on(res: ResAt, lock: &Lock) -> Option<Mode>
+    ensures { (mode : Mode) → one_if (has_mode mode result)
         ≡ own_share (weight_of of_held mode) res lock.now }
 {
     let (at, queue) = lock.place.parts();
@@ -29,7 +29,7 @@ fn held_on(res: ResAt, lock: &Lock) -> Option<Request>
         return None;
     }
     match queue {
-        Queue::Granted | Queue::Conversion => lock.row.held(),
+        Queue::Granted | Queue::Conversion => lock.row.held_mode(),
         Queue::Waiting => None,
     }
 }
@@ -43,9 +43,10 @@ impl Queues {
         ensures tallied { IsTallied self.new (Some at) }
         ensures counts { WritesCounts self.old self.new }
     {
-        let Lock { row, place, .. } = self.locks[at];
+        let Lock { row, place, .. } = &self.locks[at];
         let (res, queue) = place.parts();
-        self.resources[res.slot()].tally.remove(queue, &row.row());
+        let counted = Counted::of(queue, row);
+        self.resources[res.slot()].tally.remove(counted);
     }
 
     pub(crate) fn count_in(&mut self, at: usize)
@@ -56,9 +57,10 @@ impl Queues {
         ensures tallied { IsTallied self.new None }
         ensures counts { WritesCounts self.old self.new }
     {
-        let Lock { row, place, .. } = self.locks[at];
+        let Lock { row, place, .. } = &self.locks[at];
         let (res, queue) = place.parts();
-        self.resources[res.slot()].tally.add(queue, &row.row());
+        let counted = Counted::of(queue, row);
+        self.resources[res.slot()].tally.add(counted);
     }
 
     pub(crate) fn recount(&mut self, at: usize, row: &StoredState)
@@ -74,11 +76,12 @@ impl Queues {
             row: was,
             place,
             ..
-        } = self.locks[at];
+        } = &self.locks[at];
         let (res, queue) = place.parts();
+        let counted = Counted::of(queue, was);
         let tally = &mut self.resources[res.slot()].tally;
-        tally.remove(queue, &was.row());
-        tally.add(queue, &row.row());
+        tally.remove(counted);
+        tally.add(Counted::of(queue, row));
     }
 
     /// Whether the mode is compatible with the held mode of every lock of a resource, except the asking lock. It
@@ -100,7 +103,7 @@ impl Queues {
             None => tally.fits(mode),
             Some(except) => {
                 let lock = &self.locks[except.slot()];
-                tally.fits_beside(mode, &held_on(res, lock))
+                tally.fits_beside(mode, held_on(res, lock))
             }
         }
     }

@@ -20,7 +20,7 @@ use vlm_words::resources::{Domain, Key, Queue, Site, ValueBlock};
 /// Marks the order of making, of resources and of processes.
 pub struct InOrder;
 
-/// The record of a resource, at most 240 bytes.
+/// The record of a resource, at most 236 bytes.
 #[derive(Clone, Copy)]
 pub struct Resource {
     pub(crate) in_order: Links,
@@ -32,8 +32,6 @@ pub struct Resource {
     pub(crate) waiting: LinkedList<InQueue>,
     /// Counts of its locks by mode: those that hold each mode, and those that want it.
     pub tally: Tally,
-    /// 0 for a root, at most 15.
-    pub level: u8,
     /// The hash of its key. It is kept, so that a removal need not hash the key again.
     pub hash: u32,
     /// Its serial: the number of its making, from 1.
@@ -45,6 +43,8 @@ pub struct Resource {
     pub(crate) armed_above_nl: LinkedList<InAboveNl>,
     // the granted locks that are armed and hold more than CR, in the same order
     pub(crate) armed_above_cr: LinkedList<InAboveCr>,
+    /// 0 for a root, at most 15.
+    pub level: u8,
     /// Its value block, valid or not.
     pub value_block: ValueBlock,
 }

@@ -4,6 +4,7 @@ ghost use Rattle.std.specs.Prelude.{◌≡◌, ℕ, None, false};
 ghost use Rattle.vlm_words.specs.Rows.{wanting_row, granted_row, is_arming};
 ghost use Rattle.vlm_words.specs.Dues.{routines_of};
 ghost use Rattle.vlm_records.specs.Armed.{armed_rank};
+ghost use Rattle.vlm_records.specs.Tallies.{mode_in};
 ghost use Rattle.vlm_records.specs.declared.rows.RequestTerms.{RequestTerms};
 ghost use Rattle.vlm_records.specs.declared.rows.Routines.{Routines};
 ghost use Rattle.vlm_records.specs.Requests.{packed_terms, blocking_shown, completion_shown, tag_of, packed_number, request_shown, packed_routines};
@@ -178,6 +179,17 @@ fn request_shown(
     })
 }
 
+fn mode_shown(kept: RequestTag, asked: &RequestTerms) -> Option<Mode>
+    ensures { (number : ℕ) (routines : Routines)
+        → result ≡ mode_in (request_shown kept number routines asked.now) }
+{
+    match kept {
+        RequestTag::Nothing => None,
+        RequestTag::NoRoutine | RequestTag::Completion | RequestTag::Blocking | RequestTag::Both =>
+            Some(asked.mode),
+    }
+}
+
 // Whether the grant of this request arms its lock: it names a blocking routine.
 fn is_arming(kept: RequestTag) -> bool
     ensures { (number : ℕ) (routines : Routines) (asked : RequestTerms)
@@ -268,6 +280,20 @@ impl StoredState {
             &self.held_routines,
             &self.held_terms,
         )
+    }
+
+    /// The mode that the lock holds.
+    pub(crate) fn held_mode(&self) -> Option<Mode>
+        ensures { result ≡ mode_in self.now.held }
+    {
+        mode_shown(self.held_tag, &self.held_terms)
+    }
+
+    /// The mode that the lock wants.
+    pub(crate) fn wanted_mode(&self) -> Option<Mode>
+        ensures { result ≡ mode_in self.now.want }
+    {
+        mode_shown(self.want_tag, &self.want_terms)
     }
 
     /// How many routines the wanted request names, 0 to 2.

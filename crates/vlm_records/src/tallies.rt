@@ -3,10 +3,10 @@
 ghost use Rattle.std.specs.Prelude.{◌≡◌, ◌+◌, ◌<◌, ◌≤◌, ◌^◌, not};
 ghost use Rattle.vlm_words.specs.declared.modes.Mode.{Mode};
 ghost use Rattle.vlm_words.specs.Modes.{is_compatible};
-ghost use Rattle.vlm_records.specs.Tallies.{Count, by_mode, count_of, counts_fit, held_beside, how_many, is_mode, none_or, one_if, weight_of};
+ghost use Rattle.vlm_records.specs.Tallies.{Count, by_mode, count_of, counted_mode, counted_request, counts_fit, has_mode, held_beside, how_many, mode_in, none_or, one_if};
 ghost use Rattle.vlm_records.specs.Tallies.Count.{of_held, of_wanted};
 
-use vlm_words::locks::{LockState, Request};
+use crate::rows::StoredState;
 use vlm_words::modes::{Mode, compatible};
 use vlm_words::resources::Queue;
 
@@ -19,25 +19,55 @@ pub struct Tally {
     wanted: [u32; 6],
 }
 
-// One more lock holds or wants the mode of this request, if there is one.
-fn count_in(counts: &mut [u32; 6], request: &Option<Request>)
-    requires { (mode : Mode) → count_of counts.old mode + 1 < 2 ^ 32 }
-    ensures { (mode : Mode) → count_of counts.new mode
-        ≡ count_of counts.old mode + one_if (is_mode mode request.now) }
-{
-    if let Some(request) = request {
-        counts[request.mode.rank()] += 1;
+/// The modes by which a lock is counted.
+#[derive(Clone, Copy)]
+pub(crate) struct Counted {
+    held: Option<Mode>,
+    wanted: Option<Mode>,
+}
+
+impl Counted {
+    /// The modes of a lock in this queue. A waiting lock holds nothing, and a granted lock wants nothing.
+    pub(crate) fn of(queue: Queue, state: &StoredState) -> Self
+        ensures { (count : Count) → counted_mode count result
+            ≡ mode_in (counted_request count queue state.now) }
+    {
+        match queue {
+            Queue::Granted => Counted {
+                held: state.held_mode(),
+                wanted: None,
+            },
+            Queue::Conversion => Counted {
+                held: state.held_mode(),
+                wanted: state.wanted_mode(),
+            },
+            Queue::Waiting => Counted {
+                held: None,
+                wanted: state.wanted_mode(),
+            },
+        }
     }
 }
 
-// One lock less holds or wants the mode of this request, if there is one.
-fn count_out(counts: &mut [u32; 6], request: &Option<Request>)
-    requires { (mode : Mode) → one_if (is_mode mode request.now) ≤ count_of counts.old mode }
-    ensures { (mode : Mode) → count_of counts.new mode + one_if (is_mode mode request.now)
+// One more lock holds or wants this mode, if there is one.
+fn count_in(counts: &mut [u32; 6], counted: Option<Mode>)
+    requires { (mode : Mode) → count_of counts.old mode + 1 < 2 ^ 32 }
+    ensures { (mode : Mode) → count_of counts.new mode
+        ≡ count_of counts.old mode + one_if (has_mode mode counted) }
+{
+    if let Some(mode) = counted {
+        counts[mode.rank()] += 1;
+    }
+}
+
+// One lock less holds or wants this mode, if there is one.
+fn count_out(counts: &mut [u32; 6], counted: Option<Mode>)
+    requires { (mode : Mode) → one_if (has_mode mode counted) ≤ count_of counts.old mode }
+    ensures { (mode : Mode) → count_of counts.new mode + one_if (has_mode mode counted)
         ≡ count_of counts.old mode }
 {
-    if let Some(request) = request {
-        counts[request.mode.rank()] -= 1;
+    if let Some(mode) = counted {
+        counts[mode.rank()] -= 1;
     }
 }
 
@@ -72,37 +102,25 @@ impl Tally {
         }
     }
 
-    /// Counts a lock in, with its queue and its row.
-    pub fn add(&mut self, queue: Queue, row: &LockState)
+    /// Counts a lock in.
+    pub(crate) fn add(&mut self, counted: Counted)
         requires { (count : Count) (mode : Mode) → how_many count self.old mode + 1 < 2 ^ 32 }
         ensures { (count : Count) (mode : Mode) → how_many count self.new mode
-            ≡ how_many count self.old mode + weight_of count mode queue row.now }
+            ≡ how_many count self.old mode + one_if (has_mode mode (counted_mode count counted)) }
     {
-        match queue {
-            Queue::Granted => count_in(&mut self.held, &row.held),
-            Queue::Conversion => {
-                count_in(&mut self.wanted, &row.want);
-                count_in(&mut self.held, &row.held);
-            }
-            Queue::Waiting => count_in(&mut self.wanted, &row.want),
-        }
+        count_in(&mut self.held, counted.held);
+        count_in(&mut self.wanted, counted.wanted);
     }
 
-    /// Counts a lock out, with the queue and the row by which it was counted in.
-    pub fn remove(&mut self, queue: Queue, row: &LockState)
-        requires { (count : Count) (mode : Mode) → weight_of count mode queue row.now
+    /// Counts a lock out, with the modes by which it was counted in.
+    pub(crate) fn remove(&mut self, counted: Counted)
+        requires { (count : Count) (mode : Mode) → one_if (has_mode mode (counted_mode count counted))
             ≤ how_many count self.old mode }
         ensures { (count : Count) (mode : Mode) → how_many count self.new mode
-            + weight_of count mode queue row.now ≡ how_many count self.old mode }
+            + one_if (has_mode mode (counted_mode count counted)) ≡ how_many count self.old mode }
     {
-        match queue {
-            Queue::Granted => count_out(&mut self.held, &row.held),
-            Queue::Conversion => {
-                count_out(&mut self.wanted, &row.want);
-                count_out(&mut self.held, &row.held);
-            }
-            Queue::Waiting => count_out(&mut self.wanted, &row.want),
-        }
+        count_out(&mut self.held, counted.held);
+        count_out(&mut self.wanted, counted.wanted);
     }
 
     /// How many locks hold each mode, from NL to EX, granted or converting.
@@ -120,9 +138,9 @@ impl Tally {
     }
 
     /// Whether the mode is compatible with every held mode, if one lock that holds `own` is left out.
-    pub fn fits_beside(&self, mode: Mode, own: &Option<Request>) -> bool
-        requires { (mode : Mode) → one_if (is_mode mode own.now) ≤ how_many of_held self.now mode }
-        ensures { result ≡ counts_fit mode (held_beside own.now self.now) }
+    pub fn fits_beside(&self, mode: Mode, own: Option<Mode>) -> bool
+        requires { (mode : Mode) → one_if (has_mode mode own) ≤ how_many of_held self.now mode }
+        ensures { result ≡ counts_fit mode (held_beside own self.now) }
     {
         let mut held = self.held;
         count_out(&mut held, own);

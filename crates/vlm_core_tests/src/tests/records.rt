@@ -21,9 +21,9 @@ fn a_lock_takes_at_most_144_bytes(rt: HostRuntime) {
 }
 
 #[test]
-fn a_resource_takes_at_most_240_bytes(rt: HostRuntime) {
+fn a_resource_takes_at_most_236_bytes(rt: HostRuntime) {
     let size = size_of::<Resource>();
-    assert!(rt; size <= 240, "a resource takes {size} bytes");
+    assert!(rt; size <= 236, "a resource takes {size} bytes");
 }
 
 fn row(lkid: u32, parent: u32) -> LockState

@@ -4,7 +4,7 @@ use Rattle.slab.specs.Slab.{get, with_value}
 use Rattle.vlm_records.specs.Tallies.{how_many, weight_of}
 use Rattle.vlm_records.specs.declared.queues.Queues.{Queues}
 use Rattle.vlm_records.specs.Shown.{SameBut, but_tally, tally_in}
-use Rattle.vlm_records.proofs.Counting.{counted_in, shares-room, tally_more, weight_of-le}
+use Rattle.vlm_records.proofs.Counting.{counted_in, more_by, shares-room, tally_more, weight_of-le}
 use Rattle.vlm_records.proofs.OwnLocks.{written_same}
 use Rattle.vlm_records.proofs.PlacesOnLists.{lists_but_tally, noted_as, noted_stands}
 use Rattle.vlm_records.proofs.Rooms.{room_written}
@@ -46,7 +46,7 @@ returns-clause-tallied c =
           refl (weight_of count mode) (λ x. how_many count (tally_in (get q.resources x)) mode) (λ x. how_many count (tally_in (get q'.resources x)) mode)
           (tally_more (λ t. how_many count t mode) q.resources res was now
           (weight_of count mode c.parts-res.result.1 c.index.result.now.row) there here
-          (rw c.row.ensures at c.add.ensures count mode))
+          (more_by count mode was.tally c.add.new.self _ _ (c.of-counted.ensures count) (c.add.ensures count mode)))
           (λ x. c.requires.tallied.counts count x mode) r;
     })
 

@@ -4,7 +4,7 @@ use Rattle.slab.specs.Slab.{get, with_value}
 use Rattle.vlm_records.specs.Tallies.{how_many, weight_of}
 use Rattle.vlm_records.specs.declared.queues.Queues.{Queues}
 use Rattle.vlm_records.specs.Shown.{SameBut, but_tally, tally_in}
-use Rattle.vlm_records.proofs.Counting.{counted_out, tally_less, weighs_here}
+use Rattle.vlm_records.proofs.Counting.{counted_out, less_by, tally_less, weighs_here}
 use Rattle.vlm_records.proofs.OwnLocks.{written_same}
 use Rattle.vlm_records.proofs.PlacesOnLists.{lists_but_tally, noted_stands}
 use Rattle.vlm_records.proofs.Rooms.{room_written}
@@ -18,7 +18,7 @@ index_mut-requires c =
 
 pub remove-requires : goal.remove-requires
 remove-requires c count mode =
-    rw c.row.ensures
+    rw (c.of-counted.ensures count)
     (omega (
       arith,
       ap (λ slot. how_many count (tally_in slot) mode) (rw c.slot.ensures at c.index_mut.ensures.value),
@@ -47,7 +47,7 @@ returns-clause-tallied c =
           refl (weight_of count mode) (λ x. how_many count (tally_in (get q.resources x)) mode) (λ x. how_many count (tally_in (get q'.resources x)) mode)
           (tally_less (λ t. how_many count t mode) q.resources res was now
           (weight_of count mode c.parts-res.result.1 c.index.result.now.row) there here
-          (rw c.row.ensures at c.remove.ensures count mode))
+          (less_by count mode was.tally c.remove.new.self _ _ (c.of-counted.ensures count) (c.remove.ensures count mode)))
           (λ x. c.requires.tallied.counts count x mode) r;
     })
 

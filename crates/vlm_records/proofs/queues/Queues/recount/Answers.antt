@@ -1,8 +1,8 @@
 use Rattle.std.proofs.Common.{ap, refl, arith}
 use Rattle.std.specs.Option.{option_map}
-use Rattle.vlm_records.specs.Tallies.{how_many, weight_of}
+use Rattle.vlm_records.specs.Tallies.{has_mode, how_many, one_if, weight_of}
 use Rattle.vlm_records.specs.Shown.{but_tally, tally_in}
-use Rattle.vlm_records.proofs.Counting.{recounts, shares-room, weighs_here, weight_of-le}
+use Rattle.vlm_records.proofs.Counting.{less_by, more_by, recounts, shares-room, weighs_here, weight_of-le}
 use Rattle.vlm_records.proofs.OwnLocks.{written_same}
 use Rattle.vlm_records.proofs.PlacesOnLists.{noted_as, noted_stands}
 use Rattle.vlm_records.proofs.Rooms.{room_written}
@@ -16,7 +16,7 @@ index_mut-requires c =
 
 pub remove-requires : goal.remove-requires
 remove-requires c count mode =
-    rw c.row.ensures
+    rw (c.of-counted.ensures count)
     (omega (
       arith,
       ap (λ slot. how_many count (tally_in slot) mode) (rw c.slot.ensures at c.index_mut.ensures.value),
@@ -30,7 +30,8 @@ pub add-requires : goal.add-requires
 add-requires c count mode =
     omega (
       arith,
-      rw c.row.ensures at c.remove.ensures count mode,
+      c.remove.ensures count mode,
+      ap (λ m. one_if (has_mode mode m)) (c.of-counted.ensures count),
       ap (λ slot. how_many count (tally_in slot) mode) (rw c.slot.ensures at c.index_mut.ensures.value),
       c.requires.tallied.counts count c.parts-res.result.0 mode,
       weighs_here c.args.self.now c.args.self.now c.args.at c.parts-res.result.0 c.parts-res.result.1 c.index.result.now
@@ -59,4 +60,6 @@ returns-clause-change c =
     rw c.slot.ensures
     (recounts c.args.self.now c.args.at c.parts-res.result.0 c.parts-res.result.1 c.index.result.now
     c.index_mut.result.now c.remove.new.self c.add.new.self c.args.row.now c.index.ensures c.parts-res.ensures
-    (rw c.slot.ensures at c.index_mut.ensures.value) (rw c.row.ensures at c.remove.ensures) (rw c.row-2.ensures at c.add.ensures))
+    (rw c.slot.ensures at c.index_mut.ensures.value)
+    (λ count mode. less_by count mode c.index_mut.result.now.tally c.remove.new.self _ _ (c.of-counted.ensures count) (c.remove.ensures count mode))
+    (λ count mode. more_by count mode c.remove.new.self c.add.new.self _ _ (c.of.ensures count) (c.add.ensures count mode)))

@@ -5,5 +5,5 @@ use Rattle.vlm_records.proofs.tallies.Tally.fits_beside.Goals as goal
 
 pub returns : goal.returns
 returns c =
-    let others : count_of c.count_out.new.counts ≡ held_beside c.args.own.now c.args.self.now = fun_ext (λ mode. omega (arith, c.count_out.ensures mode)) in
+    let others : count_of c.count_out.new.counts ≡ held_beside c.args.own c.args.self.now = fun_ext (λ mode. omega (arith, c.count_out.ensures mode)) in
     c.counts_fit.ensures ∙ ap (counts_fit c.args.mode) others
