@@ -7,7 +7,7 @@ ghost use Rattle.vlm_words.specs.Dues.{row_due};
 ghost use Rattle.vlm_model.specs.Enqueue.{is_at_once};
 ghost use Rattle.vlm_store.specs.Plain.{plain_processes, plain_resource};
 ghost use Rattle.vlm_store.specs.Records.{FindsResource, HasResource, HasRoomForLock, HasRoomForResource, IsProcess, IsUnchanged, Records, SameButNotices, StoredResource, due_of, resource_at};
-ghost use Rattle.vlm_locks.specs.Entering.{HasRoomToEnter, HasEntered, IsDueMore, IsEntered, IsReady, MayEnter, new_row, processes_entered};
+ghost use Rattle.vlm_locks.specs.Entering.{HasRoomToEnter, HasEntered, IsDueMore, IsEntered, IsReady, MayEnter, entered_queue, new_row, processes_entered};
 ghost use Rattle.vlm_locks.specs.Owing.{IsPaid, OwedMoves, granted_if_at_once};
 
 use crate::endings::{end_by_grant, grant_without_value_block};
@@ -58,7 +58,19 @@ pub struct NewLock {
     pub at_once: bool,
 }
 
-// Adds a new lock at the end of a queue: granted if it is granted at once, else waiting.
+// The state in which a new lock enters, and its queue: granted if it is granted at once, else waiting.
+fn entered_state(at_once: bool, row: &StoredState) -> (StoredState, Queue)
+    ensures row { result.0 ≡ granted_if_at_once at_once row.now }
+    ensures queue { result.1 ≡ entered_queue at_once }
+{
+    if at_once {
+        (row.granted(), Queue::Granted)
+    } else {
+        (*row, Queue::Waiting)
+    }
+}
+
+// Adds a new lock at the end of its queue.
 fn enter_at(store: &mut Store, new_lock: &NewLock, row: &StoredState, res: ResAt)
     requires may_enter { MayEnter new_lock.now store.old }
     requires row { row.now ≡ new_row new_lock.now }
@@ -68,13 +80,9 @@ fn enter_at(store: &mut Store, new_lock: &NewLock, row: &StoredState, res: ResAt
     ensures due { IsDueMore (granted_if_at_once new_lock.now.at_once (new_row new_lock.now))
         store.old store.new }
 {
-    if new_lock.at_once {
-        let queue = Place::Queued(res, Queue::Granted);
-        store.add_lock_reserved(&row.granted(), new_lock.owner, new_lock.parent, queue);
-    } else {
-        let queue = Place::Queued(res, Queue::Waiting);
-        store.add_lock_reserved(row, new_lock.owner, new_lock.parent, queue);
-    }
+    let (state, queue) = entered_state(new_lock.at_once, row);
+    let place = Place::Queued(res, queue);
+    store.add_lock_reserved(&state, new_lock.owner, new_lock.parent, place);
 }
 
 fn resource_or_new(store: &mut Store, new_lock: &NewLock) -> ResAt

@@ -27,8 +27,10 @@ impl Store {
         ensures sound { IsSound self.now }
     {
         // The index keeps the order of making. As long as one node declares and nobody ends, a process stands at its
-        // ordinal less one, and this guess saves the hash.
-        let guess = usize::from(process_ordinal(pid)).wrapping_sub(1);
+        // ordinal less one. If many have ended, a new process is the last one. This guess saves the hash.
+        let guess = usize::from(process_ordinal(pid))
+            .min(self.process_index.len())
+            .wrapping_sub(1);
         match self.process_index.get_index(guess) {
             Some((found, at)) if *found == pid => Some(*at),
             _ => self.process_index.get(&pid).copied(),

@@ -1,6 +1,4 @@
-use Rattle.std.proofs.Common.{◌≡◌, true, ap, refl, sym, subst, ◌∙◌, inl}
-use Rattle.vlm_words.specs.declared.resources.Queue.TheVariants.{Granted, Waiting}
-use Rattle.vlm_words.specs.Rows.{granted_row}
+use Rattle.std.proofs.Common.{ap, inl, subst, ◌∙◌}
 use Rattle.vlm_store.specs.Records.{IsNewLock, IsProcess}
 use Rattle.vlm_locks.specs.Entering.{entered_queue, new_row}
 use Rattle.vlm_locks.specs.Owing.{granted_if_at_once}
@@ -10,87 +8,50 @@ use Rattle.vlm_locks.proofs.ReservedByRequests.{due_entered}
 use Rattle.vlm_locks.proofs.Rising.{new_above, none_loose}
 use Rattle.vlm_locks.proofs.new_locks.enter_at.Goals as goal
 
--- ---- where it is granted at once
-
 pub add_lock_reserved-requires-clause-new : goal.add_lock_reserved-requires-clause-new
 add_lock_reserved-requires-clause-new c =
     let e = c.args.new_lock.now in
-    rw (c.granted.ensures, c.requires.row)
-    (subst (λ lkid. IsNewLock lkid c.args.store.now) (entered_same true (new_row e)).lkid
+    rw (c.entered_state-state.ensures.row, c.requires.row)
+    (subst (λ lkid. IsNewLock lkid c.args.store.now) (entered_same e.at_once (new_row e)).lkid
     (new_above e.lkid c.args.store.now
     (none_loose c.args.store.now c.requires.may_enter.rest.rising) c.requires.may_enter.rising))
 
 pub add_lock_reserved-requires-clause-owner : goal.add_lock_reserved-requires-clause-owner
 add_lock_reserved-requires-clause-owner c =
     let e = c.args.new_lock.now in
-    rw (c.granted.ensures, c.requires.row)
+    rw (c.entered_state-state.ensures.row, c.requires.row)
     (subst (λ pid. IsProcess e.owner pid c.args.store.now)
-    (entered_same true (new_row e)).pid c.requires.may_enter.owner)
+    (entered_same e.at_once (new_row e)).pid c.requires.may_enter.owner)
 
 pub add_lock_reserved-requires-clause-parent : goal.add_lock_reserved-requires-clause-parent
 add_lock_reserved-requires-clause-parent c =
     let e = c.args.new_lock.now in
-    rw (c.granted.ensures, c.requires.row)
-    (parent_same e.parent (new_row e) (granted_if_at_once true (new_row e)) c.args.store.now
-    (entered_same true (new_row e)) c.requires.may_enter.parent)
+    rw (c.entered_state-state.ensures.row, c.requires.row)
+    (parent_same e.parent (new_row e) (granted_if_at_once e.at_once (new_row e)) c.args.store.now
+    (entered_same e.at_once (new_row e)) c.requires.may_enter.parent)
 
 pub add_lock_reserved-requires-clause-there : goal.add_lock_reserved-requires-clause-there
 add_lock_reserved-requires-clause-there c = resource_there c.args.store.now c.args.res c.requires.found.0 c.requires.found.1.0 c.requires.found.1.1
 
-pub returns-then-new_lock-clause-entered : goal.returns-then-new_lock-clause-entered
-returns-then-new_lock-clause-entered c =
+pub returns-clause-entered : goal.returns-clause-entered
+returns-clause-entered c =
     let e = c.args.new_lock.now in
     let may = c.requires.may_enter in
     let lock = c.add_lock_reserved.result in
-    let row = subst (λ at_once. c.granted.result ≡ granted_if_at_once at_once (new_row e)) (sym c.if-new_lock.true)
-    (c.granted.ensures ∙ ap granted_row c.requires.row) in
-    let queue = subst (λ at_once. Granted ≡ entered_queue at_once) (sym c.if-new_lock.true) refl in
+    let row = c.entered_state-state.ensures.row ∙ ap (granted_if_at_once e.at_once) c.requires.row in
     entered_by c.args.store.now c.add_lock_reserved.ensures.sound.before may.rest e may.keyed c.args.res
     c.requires.found lock (granted_if_at_once e.at_once (new_row e))
     (entered_queue e.at_once) _ c.add_lock_reserved.new.self
-    (rw (row, queue) at c.add_lock_reserved.ensures.added) c.add_lock_reserved.ensures.sound.after
+    (rw (row, c.entered_state-state.ensures.queue) at c.add_lock_reserved.ensures.added) c.add_lock_reserved.ensures.sound.after
     (λ is. c.add_lock_reserved.ensures.fresh (is.0, inl is.1))
     (entered_same e.at_once (new_row e)) may.rising may.owner
     (joins_entered lock (new_row e) e.at_once c.requires.found.0)
 
-pub returns-then-new_lock-clause-due : goal.returns-then-new_lock-clause-due
-returns-then-new_lock-clause-due c =
+pub returns-clause-due : goal.returns-clause-due
+returns-clause-due c =
     let e = c.args.new_lock.now in
-    let row = subst (λ at_once. c.granted.result ≡ granted_if_at_once at_once (new_row e)) (sym c.if-new_lock.true)
-    (c.granted.ensures ∙ ap granted_row c.requires.row) in
+    let row = c.entered_state-state.ensures.row ∙ ap (granted_if_at_once e.at_once) c.requires.row in
     due_entered c.args.store.now c.add_lock_reserved.ensures.sound.before c.add_lock_reserved.result
-    (granted_if_at_once e.at_once (new_row e)) e.owner e.parent c.args.res Granted
+    (granted_if_at_once e.at_once (new_row e)) e.owner e.parent c.args.res (entered_queue e.at_once)
     (resource_there c.args.store.now c.args.res c.requires.found.0 c.requires.found.1.0 c.requires.found.1.1) _
-    c.add_lock_reserved.new.self (rw row at c.add_lock_reserved.ensures.added)
-
--- ---- where it waits
-
-pub add_lock_reserved-requires-else-new_lock-clause-new : goal.add_lock_reserved-requires-else-new_lock-clause-new
-add_lock_reserved-requires-else-new_lock-clause-new c =
-    rw c.requires.row (new_above c.args.new_lock.now.lkid c.args.store.now
-    (none_loose c.args.store.now c.requires.may_enter.rest.rising) c.requires.may_enter.rising)
-
-pub add_lock_reserved-requires-else-new_lock-clause-there : goal.add_lock_reserved-requires-else-new_lock-clause-there
-add_lock_reserved-requires-else-new_lock-clause-there c =
-    resource_there c.args.store.now c.args.res c.requires.found.0 c.requires.found.1.0 c.requires.found.1.1
-
-pub returns-else-new_lock-clause-entered : goal.returns-else-new_lock-clause-entered
-returns-else-new_lock-clause-entered c =
-    let e = c.args.new_lock.now in
-    let may = c.requires.may_enter in
-    let added = c.add_lock_reserved-else-new_lock in
-    let row = subst (λ at_once. c.args.row.now ≡ granted_if_at_once at_once (new_row e)) (sym c.if-new_lock.false) c.requires.row in
-    let queue = subst (λ at_once. Waiting ≡ entered_queue at_once) (sym c.if-new_lock.false) refl in
-    entered_by c.args.store.now added.ensures.sound.before may.rest e may.keyed c.args.res c.requires.found added.result
-    (granted_if_at_once e.at_once (new_row e)) (entered_queue e.at_once) _ added.new.self
-    (rw (row, queue) at added.ensures.added) added.ensures.sound.after (λ is. added.ensures.fresh (is.0, inl is.1))
-    (entered_same e.at_once (new_row e)) may.rising may.owner
-    (joins_entered added.result (new_row e) e.at_once c.requires.found.0)
-
-pub returns-else-new_lock-clause-due : goal.returns-else-new_lock-clause-due
-returns-else-new_lock-clause-due c =
-    let e = c.args.new_lock.now in
-    let added = c.add_lock_reserved-else-new_lock in
-    let row = subst (λ at_once. c.args.row.now ≡ granted_if_at_once at_once (new_row e)) (sym c.if-new_lock.false) c.requires.row in
-    due_entered c.args.store.now added.ensures.sound.before added.result (granted_if_at_once e.at_once (new_row e)) e.owner e.parent c.args.res Waiting
-    (resource_there c.args.store.now c.args.res c.requires.found.0 c.requires.found.1.0 c.requires.found.1.1) _ added.new.self (rw row at added.ensures.added)
+    c.add_lock_reserved.new.self (rw (row, c.entered_state-state.ensures.queue) at c.add_lock_reserved.ensures.added)
