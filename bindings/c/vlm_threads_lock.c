@@ -138,17 +138,27 @@ void vlmt_lock(vlm_threads *layer) {
     atomic_store_explicit(&mutex->taken, before + 1, memory_order_relaxed);
 }
 
-void vlmt_unlock(vlm_threads *layer) {
-    const struct condition *woken = layer->woken;
-    bool has_told = layer->has_told;
-    layer->woken = NULL;
-    layer->has_told = false;
-    if (atomic_exchange_explicit(&layer->mutex.state, FREE, memory_order_release) == SLEPT_FOR)
-        wake(&layer->mutex.state, 1);
-    if (woken)
-        wake(&woken->count, 1);
-    if (has_told)
+static void let_go(struct mutex *mutex) {
+    if (atomic_exchange_explicit(&mutex->state, FREE, memory_order_release) == SLEPT_FOR)
+        wake(&mutex->state, 1);
+}
+
+/* Kept out of line: most calls tell no other thread. */
+__attribute__((noinline)) static void let_go_for_others(vlm_threads *layer) {
+    struct told told = layer->told;
+    layer->told = (struct told){.any = false};
+    let_go(&layer->mutex);
+    if (told.sleeper)
+        wake(&told.sleeper->count, 1);
+    if (told.looker)
         pause_often(TOLD_PAUSES);
+}
+
+void vlmt_unlock(vlm_threads *layer) {
+    if (layer->told.any)
+        let_go_for_others(layer);
+    else
+        let_go(&layer->mutex);
 }
 
 bool vlmt_sleep(vlm_threads *layer, struct condition *condition, const struct timespec *end) {
@@ -178,12 +188,13 @@ void vlmt_wake(vlm_threads *layer, struct condition *condition) {
     if (!condition->sleepers && !condition->lookers)
         return;
     atomic_fetch_add(&condition->count, 1);
-    layer->has_told |= condition->lookers != 0;
+    layer->told.any = true;
+    layer->told.looker |= condition->lookers != 0;
     if (!condition->sleepers)
         return;
-    if (layer->woken)
-        wake(&layer->woken->count, 1);
-    layer->woken = condition;
+    if (layer->told.sleeper)
+        wake(&layer->told.sleeper->count, 1);
+    layer->told.sleeper = condition;
 }
 
 void vlmt_wake_all(struct condition *condition) {

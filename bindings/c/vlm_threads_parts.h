@@ -46,6 +46,13 @@ struct condition {
 #endif
 };
 
+/* Other threads for which something has come since the mutex was taken. */
+struct told {
+    bool any;
+    bool looker;               /* one that looks */
+    struct condition *sleeper; /* one that sleeps on it is to be woken, once the mutex is let go; or null */
+};
+
 /* The layer's mutex. Threads that want it look at the first two words, so these are on a cache line of their own. */
 struct mutex {
 #ifdef VLM_THREADS_PLAIN_MUTEX
@@ -185,10 +192,9 @@ struct bond {
 
 struct vlm_threads {
     struct mutex mutex;
+    struct told told;
     struct condition pending; /* the dispatcher sleeps: an event is pending, or it is to end */
     struct condition watched; /* the watchdog sleeps: it is to end */
-    struct condition *woken;  /* a thread is to be woken that sleeps on it, after the mutex is let go; or null */
-    bool has_told;            /* a thread that looks is told, since the mutex was taken */
     struct condition calm;    /* a close or a settle sleeps: a routine or a sleep has ended */
     vlm handle;
     uint32_t departed; /* bit n: node n has departed */
