@@ -1,9 +1,9 @@
 //! Finds out whether a request is deadlocked.
 
-ghost use Rattle.std.specs.Prelude.{◌≡◌};
+ghost use Rattle.std.specs.Prelude.{◌≡◌, ℕ};
 ghost use Rattle.std.specs.Bool.{OnFalse, OnTrue};
 ghost use Rattle.vlm_model.specs.Deadlocks.{IsDeadlocked};
-ghost use Rattle.vlm_store.specs.Records.{IsProcess};
+ghost use Rattle.vlm_store.specs.Records.{HasProcess, IsProcess};
 ghost use Rattle.vlm_locks.specs.Rest.{IsAtRest};
 ghost use Rattle.vlm_locks.specs.Standing.{IsLocated};
 ghost use Rattle.vlm_cycle.specs.Covering.{IsNearBehind};
@@ -17,11 +17,12 @@ use vlm_store::{ProcAt, Store};
 
 // Finds owners of the locks for which the requests of a process wait, as `find_waited_for` does. The cost grows with
 // its locks, and with the locks that are looked at for each queued one.
-fn find_behind_own(store: &Store, scratch: &mut Scratch, owner: ProcAt, pid: u32)
+fn find_behind_own(store: &Store, scratch: &mut Scratch, owner: ProcAt)
     requires rest { IsAtRest store.now }
-    requires owner { IsProcess owner pid store.now }
+    requires owner { HasProcess owner store.now }
     requires roomy { IsRoomy store.now scratch.old }
-    ensures { Marks (IsNearBehind store.now pid) scratch.old scratch.new }
+    ensures { (pid : ℕ) → IsProcess owner pid store.now
+        → Marks (IsNearBehind store.now pid) scratch.old scratch.new }
 {
     let mut at = store.first_own(owner);
     while let Some(lock) = at {
@@ -37,7 +38,7 @@ fn find_behind(store: &Store, scratch: &mut Scratch, pid: u32)
     ensures { Marks (IsNearBehind store.now pid) scratch.old scratch.new }
 {
     if let Some(owner) = store.process(pid) {
-        find_behind_own(store, scratch, owner, pid);
+        find_behind_own(store, scratch, owner);
     }
 }
 

@@ -4,8 +4,9 @@ use Rattle.std.specs.Prelude.{◌==◌}
 use Rattle.std.proofs.lemmas.Bool.{cases_eq}
 use Rattle.std.proofs.lemmas.Option.{none-some, same_Some}
 use Rattle.vlm_collections.specs.Lists.{IsIn}
-use Rattle.vlm_store.specs.Records.{AreResourcesApart, HasProcess, HasResource, IsProcess, Records, StoredProcess}
+use Rattle.vlm_store.specs.Records.{AreResourcesApart, HasProcess, HasResource, IsProcess, IsSound, Records, StoredProcess}
 use Rattle.vlm_store.specs.Records.{StoredResource, on_resource, process_at, resource_at, SameButNotices, but_notices}
+use Rattle.vlm_store.proofs.Dues.{due_is}
 use Rattle.vlm_store.proofs.Records.{map_on, resource_is}
 
 process_found : (at : ℕ) (p : StoredProcess) (ps : List StoredProcess) → IsIn p ps → p.at ≡ at → IsSome (process_at at ps)
@@ -24,6 +25,11 @@ process_found at p (x ∷ ps) among is =
 -- a process of this handle and this ID is one of this handle
 pub process_there : (s : Records) (at pid : ℕ) → IsProcess at pid s → HasProcess at s
 process_there s at pid is = process_found at is.0 s.processes is.1.0 is.1.1
+
+-- a process of this handle has an ID
+pub process_here : (s : Records) → IsSound s → (at : ℕ) → HasProcess at s → (pid : ℕ) × IsProcess at pid s
+process_here s sound at there =
+    let its = due_is at s sound.processes_apart there in (its.0.process.pid, (its.0, (its.1.1.0, its.1.1.1, refl)))
 
 -- the handle of a resource leads to a resource
 pub resource_there : (s : Records) (res : ℕ) (r : StoredResource) → IsIn r s.resources → r.at ≡ res → HasResource res s

@@ -99,6 +99,13 @@ top_found s sound pid top own lock found =
     let handle : own.1 ≡ lock = sound.lkids_apart own.1 lock own.2 found.0 (inl own.3.0) found.1.0 (own.3.1 ∙ sym found.1.1) in
     (own.2, (subst (λ h. Stores s h own.2) handle own.3.0, own.3.1, own.3.2))
 
+-- a lock is of one process
+pub one_scope : (s : Records) → IsSound s → (top pid other : ℕ) → IsOwnScope (Below top) pid s → IsOwnScope (Below top) other s → pid ≡ other
+one_scope s sound top pid other own also =
+    let handle : own.1 ≡ also.1 = sound.lkids_apart own.1 also.1 own.2 also.2 (inl own.3.0) (inl also.3.0) (own.3.1 ∙ sym also.3.1) in
+    let same : own.2 ≡ also.2 = one_lock s sound also.1 own.2 also.2 (subst (λ h. Stores s h own.2) handle own.3.0) also.3.0 in
+    sym own.3.2 ∙ ap (λ (x : LockState). x.pid) same ∙ also.3.2
+
 module _ (s : Records) (sound : IsSound s) (rest : IsAtRest s) (pid top : ℕ) (own : IsOwnScope (Below top) pid s)
     (together : SublocksAreOwn s) (closed : SublocksGoToo (Below top) s) where
   abbrev at_top : ℕ

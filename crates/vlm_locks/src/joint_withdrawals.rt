@@ -46,8 +46,8 @@ fn note_scope(store: &Store, touched: &mut Touched, joint: &JointWithdrawal)
     ensures room { touched.new.room ≡ touched.old.room }
 {
     match joint.scope {
-        Scope::All => note_own(store, touched, joint.owner, joint.pid),
-        Scope::Below(top) => note_below(store, touched, joint.pid, top),
+        Scope::All => note_own(store, touched, joint.owner),
+        Scope::Below(top) => note_below(store, touched, top),
     }
 }
 

@@ -1,7 +1,7 @@
 //! Notes the locks that go together: all locks of a process, or all locks below a lock.
 
-ghost use Rattle.std.specs.Prelude.{◌≡◌, ◌≤◌, ◌+◌, ◌++◌, [], length};
-ghost use Rattle.vlm_store.specs.Records.{IsProcess, IsStored, sublocks_at};
+ghost use Rattle.std.specs.Prelude.{◌≡◌, ◌≤◌, ◌+◌, ◌++◌, ℕ, [], length};
+ghost use Rattle.vlm_store.specs.Records.{HasProcess, IsProcess, IsStored, sublocks_at};
 ghost use Rattle.vlm_store.specs.Total.{lock_total};
 ghost use Rattle.vlm_locks.specs.declared.joint_withdrawals.Scope.TheVariants.{All, Below};
 ghost use Rattle.vlm_locks.specs.GivingUp.{AreChosen, AreOfLocks, IsOwnScope, SublocksGoToo, noted_lkids};
@@ -12,12 +12,13 @@ ghost use Rattle.vlm_locks.specs.Touched.{touched_handles};
 use crate::touched::{Note, Touched};
 use vlm_store::{LockAt, ProcAt, Store};
 
-pub(crate) fn note_own(store: &Store, touched: &mut Touched, owner: ProcAt, pid: u32)
+pub(crate) fn note_own(store: &Store, touched: &mut Touched, owner: ProcAt)
     requires rest { IsAtRest store.now }
-    requires owner { IsProcess owner pid store.now }
+    requires owner { HasProcess owner store.now }
     requires none { touched.old.noted ≡ [] }
     requires room { lock_total store.now ≤ touched.old.room }
-    ensures chosen { AreChosen All pid store.now (noted_lkids touched.new.noted) }
+    ensures chosen { (pid : ℕ) → IsProcess owner pid store.now
+        → AreChosen All pid store.now (noted_lkids touched.new.noted) }
     ensures locks { AreOfLocks touched.new.noted store.now }
     ensures room { touched.new.room ≡ touched.old.room }
 {
@@ -48,14 +49,15 @@ fn note_sublocks(store: &Store, touched: &mut Touched, lock: LockAt)
 
 // Notes all locks below the lock with this ID, by rising ID. It goes level by level, and the
 // notes are its queue of locks whose sublocks come next. So it looks at no other lock, and takes no memory.
-pub(crate) fn note_below(store: &Store, touched: &mut Touched, pid: u32, top: u32)
+pub(crate) fn note_below(store: &Store, touched: &mut Touched, top: u32)
     requires rest { IsAtRest store.now }
-    requires top { IsOwnScope (Below top) pid store.now }
+    requires top { (pid : ℕ) × IsOwnScope (Below top) pid store.now }
     requires together { SublocksAreOwn store.now }
     requires closed { SublocksGoToo (Below top) store.now }
     requires none { touched.old.noted ≡ [] }
     requires room { lock_total store.now ≤ touched.old.room }
-    ensures chosen { AreChosen (Below top) pid store.now (noted_lkids touched.new.noted) }
+    ensures chosen { (pid : ℕ) → IsOwnScope (Below top) pid store.now
+        → AreChosen (Below top) pid store.now (noted_lkids touched.new.noted) }
     ensures locks { AreOfLocks touched.new.noted store.now }
     ensures room { touched.new.room ≡ touched.old.room }
 {

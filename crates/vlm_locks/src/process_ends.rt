@@ -1,7 +1,7 @@
 //! Ends processes: all their locks go.
 
-ghost use Rattle.std.specs.Prelude.{◌==◌, ◌≤◌};
-ghost use Rattle.vlm_store.specs.Records.{IsProcess};
+ghost use Rattle.std.specs.Prelude.{◌==◌, ◌≤◌, ℕ};
+ghost use Rattle.vlm_store.specs.Records.{HasProcess, IsProcess};
 ghost use Rattle.vlm_words.specs.Steps.{is_of_node};
 ghost use Rattle.vlm_locks.specs.RunningDown.{AreEnded, CanEndProcesses, HasRunDown};
 
@@ -12,10 +12,11 @@ use crate::withdrawals::Withdrawal;
 use vlm_store::{ProcAt, Store};
 
 // The last lock goes first, so that sublocks go before their parents.
-fn run_down(store: &mut Store, touched: &mut Touched, owner: ProcAt, pid: u32)
-    requires owner { IsProcess owner pid store.old }
+fn run_down(store: &mut Store, touched: &mut Touched, owner: ProcAt)
+    requires owner { HasProcess owner store.old }
     requires can_end { CanEndProcesses touched.old store.old }
-    ensures { HasRunDown owner pid store.old store.new touched.old touched.new }
+    ensures { (pid : ℕ) → IsProcess owner pid store.old
+        → HasRunDown owner pid store.old store.new touched.old touched.new }
 {
     while let Some(lock) = store.last_own(owner) {
         let located = located_lock(store, lock);
@@ -27,13 +28,14 @@ fn run_down(store: &mut Store, touched: &mut Touched, owner: ProcAt, pid: u32)
 /// Ends a process. First it withdraws all its locks: their requests end without a status or an AST, and the value block
 /// of a resource is marked invalid if one of them holds PW or EX there. Then the process goes, with its status blocks
 /// and its ASTs. It notes the touched resources. The cost grows with the locks that go.
-pub fn end_process(store: &mut Store, touched: &mut Touched, owner: ProcAt, pid: u32)
-    requires owner { IsProcess owner pid store.old }
+pub fn end_process(store: &mut Store, touched: &mut Touched, owner: ProcAt)
+    requires owner { HasProcess owner store.old }
     requires can_end { CanEndProcesses touched.old store.old }
-    ensures ended { AreEnded (λ p. p == pid) store.old store.new touched.old touched.new }
+    ensures ended { (pid : ℕ) → IsProcess owner pid store.old
+        → AreEnded (λ p. p == pid) store.old store.new touched.old touched.new }
     ensures can_end { CanEndProcesses touched.new store.new }
 {
-    run_down(store, touched, owner, pid);
+    run_down(store, touched, owner);
     store.remove_process(owner);
 }
 
@@ -49,6 +51,6 @@ pub fn end_processes_of(store: &mut Store, touched: &mut Touched, node: u8)
         let Some(owner) = store.process(pid) else {
             break;
         };
-        end_process(store, touched, owner, pid);
+        end_process(store, touched, owner);
     }
 }

@@ -11,3 +11,6 @@ returns-in_default c =
     let s = c.args.store.now in
     marks_none (IsNearBehind s c.args.pid) c.args.scratch.now
     (none_behind s c.process.ensures.sound c.args.pid (subst (FindsProcess s c.args.pid) c.in_default.is c.process.ensures.found))
+
+pub returns-in-Some : goal.returns-in-Some
+returns-in-Some c = c.find_behind_own.ensures c.args.pid c.in-Some.ensures.found

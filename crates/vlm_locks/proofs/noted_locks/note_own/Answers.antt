@@ -4,14 +4,11 @@ use Rattle.vlm_store.specs.Records.{IsStored, own_handles_at}
 use Rattle.vlm_locks.specs.declared.touched.Note.{Note}
 use Rattle.vlm_locks.specs.Touched.{touched_handles}
 use Rattle.vlm_locks.proofs.ChosenLocks.{on_from}
-use Rattle.vlm_locks.proofs.FoundByHandle.{process_there}
+use Rattle.vlm_locks.proofs.FoundByHandle.{process_here}
 use Rattle.vlm_locks.proofs.Gathered.{own_at_most, own_chosen}
 use Rattle.vlm_locks.proofs.Noting.{AreNoted, all_noted, fewer_left, has_room, lock_in, next_is, none_is_noted, one_more}
 use Rattle.vlm_locks.proofs.RunsDown.{handles_apart, stored_here}
 use Rattle.vlm_locks.proofs.noted_locks.note_own.Goals as goal
-
-pub first_own-next-requires : goal.first_own-next-requires
-first_own-next-requires c = process_there c.args.store.now c.args.owner c.args.pid c.requires.owner
 
 pub loop-next-init : goal.loop-next-init
 loop-next-init c =
@@ -21,12 +18,13 @@ loop-next-init c =
 -- the lock is stored
 pub of_lock-requires : goal.of_lock-requires
 of_lock-requires c =
+    let who = process_here c.args.store.now c.requires.rest.sound c.args.owner c.requires.owner in
     let so_far : AreNoted c.args.store.now (own_handles_at c.args.owner c.args.store.now) c.args.touched.now c.loop-next.touched (Some c.in-Some.lock) =
     subst (AreNoted c.args.store.now
     (own_handles_at c.args.owner c.args.store.now) c.args.touched.now c.loop-next.touched) c.in-Some.is
     c.loop-next.invariant in
-    let apart = handles_apart c.args.owner c.args.pid c.args.store.now c.first_own-next.ensures.sound c.requires.owner in
-    (let here = stored_here c.args.owner c.args.pid c.args.store.now c.first_own-next.ensures.sound c.requires.owner
+    let apart = handles_apart c.args.owner who.0 c.args.store.now c.first_own-next.ensures.sound who.1 in
+    (let here = stored_here c.args.owner who.0 c.args.store.now c.first_own-next.ensures.sound who.1
     c.requires.rest c.in-Some.lock
     (lock_in c.args.store.now
     (own_handles_at c.args.owner c.args.store.now) c.args.touched.now c.loop-next.touched c.in-Some.lock so_far
@@ -34,26 +32,28 @@ of_lock-requires c =
 
 pub note-requires : goal.note-requires
 note-requires c =
+    let who = process_here c.args.store.now c.requires.rest.sound c.args.owner c.requires.owner in
     let so_far : AreNoted c.args.store.now (own_handles_at c.args.owner c.args.store.now) c.args.touched.now c.loop-next.touched (Some c.in-Some.lock) =
     subst (AreNoted c.args.store.now
     (own_handles_at c.args.owner c.args.store.now) c.args.touched.now c.loop-next.touched) c.in-Some.is
     c.loop-next.invariant in
-    let apart = handles_apart c.args.owner c.args.pid c.args.store.now c.first_own-next.ensures.sound c.requires.owner in
+    let apart = handles_apart c.args.owner who.0 c.args.store.now c.first_own-next.ensures.sound who.1 in
     has_room c.args.store.now (own_handles_at c.args.owner c.args.store.now) c.args.touched.now c.loop-next.touched c.in-Some.lock so_far apart (omega (
       arith,
       c.requires.room,
-      own_at_most c.args.owner c.args.pid c.args.store.now c.first_own-next.ensures.sound c.requires.owner c.requires.rest,
+      own_at_most c.args.owner who.0 c.args.store.now c.first_own-next.ensures.sound who.1 c.requires.rest,
       ap (λ (ts : List Note). length ts) c.requires.none,
     ))
 
 pub next_own-next-requires : goal.next_own-next-requires
 next_own-next-requires c =
+    let who = process_here c.args.store.now c.requires.rest.sound c.args.owner c.requires.owner in
     let so_far : AreNoted c.args.store.now (own_handles_at c.args.owner c.args.store.now) c.args.touched.now c.loop-next.touched (Some c.in-Some.lock) =
     subst (AreNoted c.args.store.now
     (own_handles_at c.args.owner c.args.store.now) c.args.touched.now c.loop-next.touched) c.in-Some.is
     c.loop-next.invariant in
-    let apart = handles_apart c.args.owner c.args.pid c.args.store.now c.first_own-next.ensures.sound c.requires.owner in
-    (let here = stored_here c.args.owner c.args.pid c.args.store.now c.first_own-next.ensures.sound c.requires.owner
+    let apart = handles_apart c.args.owner who.0 c.args.store.now c.first_own-next.ensures.sound who.1 in
+    (let here = stored_here c.args.owner who.0 c.args.store.now c.first_own-next.ensures.sound who.1
     c.requires.rest c.in-Some.lock
     (lock_in c.args.store.now
     (own_handles_at c.args.owner c.args.store.now) c.args.touched.now c.loop-next.touched c.in-Some.lock so_far
@@ -61,11 +61,12 @@ next_own-next-requires c =
 
 pub loop-next-smaller : goal.loop-next-smaller
 loop-next-smaller c =
+    let who = process_here c.args.store.now c.requires.rest.sound c.args.owner c.requires.owner in
     let so_far : AreNoted c.args.store.now (own_handles_at c.args.owner c.args.store.now) c.args.touched.now c.loop-next.touched (Some c.in-Some.lock) =
     subst (AreNoted c.args.store.now
     (own_handles_at c.args.owner c.args.store.now) c.args.touched.now c.loop-next.touched) c.in-Some.is
     c.loop-next.invariant in
-    let apart = handles_apart c.args.owner c.args.pid c.args.store.now c.first_own-next.ensures.sound c.requires.owner in
+    let apart = handles_apart c.args.owner who.0 c.args.store.now c.first_own-next.ensures.sound who.1 in
     let next = next_is c.args.store.now
     (own_handles_at c.args.owner c.args.store.now) c.args.touched.now c.loop-next.touched c.in-Some.lock so_far
     apart c.next_own-next.result
@@ -83,11 +84,12 @@ loop-next-smaller c =
 
 pub loop-next-preserved : goal.loop-next-preserved
 loop-next-preserved c =
+    let who = process_here c.args.store.now c.requires.rest.sound c.args.owner c.requires.owner in
     let so_far : AreNoted c.args.store.now (own_handles_at c.args.owner c.args.store.now) c.args.touched.now c.loop-next.touched (Some c.in-Some.lock) =
     subst (AreNoted c.args.store.now
     (own_handles_at c.args.owner c.args.store.now) c.args.touched.now c.loop-next.touched) c.in-Some.is
     c.loop-next.invariant in
-    let apart = handles_apart c.args.owner c.args.pid c.args.store.now c.first_own-next.ensures.sound c.requires.owner in
+    let apart = handles_apart c.args.owner who.0 c.args.store.now c.first_own-next.ensures.sound who.1 in
     let next = next_is c.args.store.now
     (own_handles_at c.args.owner c.args.store.now) c.args.touched.now c.loop-next.touched c.in-Some.lock so_far
     apart c.next_own-next.result
@@ -96,7 +98,7 @@ loop-next-preserved c =
     (own_handles_at c.args.owner c.args.store.now) c.args.touched.now c.loop-next.touched c.in-Some.lock so_far
     apart)) in
     let row : IsStored c.in-Some.lock c.args.store.now =
-    (let here = stored_here c.args.owner c.args.pid c.args.store.now c.first_own-next.ensures.sound c.requires.owner
+    (let here = stored_here c.args.owner who.0 c.args.store.now c.first_own-next.ensures.sound who.1
     c.requires.rest c.in-Some.lock
     (lock_in c.args.store.now
     (own_handles_at c.args.owner c.args.store.now) c.args.touched.now c.loop-next.touched c.in-Some.lock so_far
@@ -108,8 +110,8 @@ loop-next-preserved c =
     c.next_own-next.result next
 
 pub returns-clause-chosen : goal.returns-clause-chosen
-returns-clause-chosen c =
-    own_chosen c.args.owner c.args.pid c.args.store.now c.first_own-next.ensures.sound c.requires.owner c.requires.rest
+returns-clause-chosen c pid lives =
+    own_chosen c.args.owner pid c.args.store.now c.first_own-next.ensures.sound lives c.requires.rest
     c.loop-next.touched.noted c.loop-next.invariant.locks
     (all_noted c.args.store.now
     (own_handles_at c.args.owner c.args.store.now) c.args.touched.now c.loop-next.touched c.loop-next.next

@@ -8,14 +8,15 @@ use Rattle.vlm_locks.proofs.process_ends.end_processes_of.Goals as goal
 pub loop-pid-smaller : goal.loop-pid-smaller
 loop-pid-smaller c =
     let first = living_first c.args.node c.first_of.result c.loop-pid.store.processes c.first_of.ensures.first c.in-Some.pid c.in-Some.is in
-    omega (arith, fewer_left c.in-Some.pid c.loop-pid.store c.end_process.new.store c.end_process.ensures.ended.processes first.0 first.1.0 first.1.1)
+    let ended = c.end_process.ensures.ended c.in-Some.pid c.in-Some-process.ensures.found in
+    omega (arith, fewer_left c.in-Some.pid c.loop-pid.store c.end_process.new.store ended.processes first.0 first.1.0 first.1.1)
 
 pub loop-pid-preserved : goal.loop-pid-preserved
 loop-pid-preserved c =
     let first = living_first c.args.node c.first_of.result c.loop-pid.store.processes c.first_of.ensures.first c.in-Some.pid c.in-Some.is in
     one_more_ends (is_of_node c.args.node) (λ p. p == c.in-Some.pid) (λ pid same. ap (is_of_node c.args.node) (eqb-true pid c.in-Some.pid same) ∙ first.1.2)
     c.args.store.now c.loop-pid.store c.end_process.new.store c.args.touched.now c.loop-pid.touched c.end_process.new.touched
-    c.loop-pid.invariant c.end_process.ensures.ended c.end_process.ensures.can_end
+    c.loop-pid.invariant (c.end_process.ensures.ended c.in-Some.pid c.in-Some-process.ensures.found) c.end_process.ensures.can_end
 
 -- no process is left
 pub returns-in_default-clause-ended : goal.returns-in_default-clause-ended

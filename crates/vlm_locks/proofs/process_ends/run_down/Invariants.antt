@@ -1,11 +1,12 @@
-use Rattle.std.proofs.Common.{length}
-use Rattle.vlm_store.specs.Records.{own_handles_at}
+use Rattle.std.proofs.Common.{ℕ, length}
+use Rattle.vlm_store.specs.Records.{IsProcess, own_handles_at}
 use Rattle.vlm_locks.proofs.RunsDown.{IsRunningDown}
 use Rattle.vlm_locks.proofs.process_ends.run_down.Given as goal
 
 -- the process is run down so far
 abbrev pub invariant-loop-lock : goal.invariant-loop-lock
-invariant-loop-lock l = IsRunningDown l.owner l.pid l.initial.store l.store l.initial.touched l.touched
+invariant-loop-lock l =
+    (pid : ℕ) → IsProcess l.owner pid l.initial.store → IsRunningDown l.owner pid l.initial.store l.store l.initial.touched l.touched
 
 -- each turn takes a lock of the process
 abbrev pub decreases-loop-lock : goal.decreases-loop-lock
