@@ -7,13 +7,14 @@ ghost use Rattle.vlm_model.specs.Checks.{lock_refusal};
 ghost use Rattle.vlm_words.specs.Flags.{cancel, deq_flag_bits, deqall, has_flag, invvalblk};
 ghost use Rattle.vlm_model.specs.Endings.How.{by_abort};
 ghost use Rattle.vlm_model.specs.Stepped.{Outcome};
+ghost use Rattle.vlm_words.specs.declared.steps.Dequeue.{Dequeue};
 ghost use Rattle.vlm_store.specs.Records.{HasNoSublocks, HasResource};
 ghost use Rattle.vlm_locks.specs.GivingUp.{IsOwnScope};
 ghost use Rattle.vlm_locks.specs.Rest.{OthersStay};
 ghost use Rattle.vlm_locks.specs.Standing.{IsLocated};
 ghost use Rattle.vlm_locks.specs.Withdrawals.{plain_withdrawal};
 ghost use Rattle.vlm_locks.specs.Withdrawing.{goes};
-ghost use Rattle.vlm_machine.specs.Admissions.{IsAdmittedDequeue, IsCheckedDequeue, IsChildless, scope_of, refusal_alone};
+ghost use Rattle.vlm_machine.specs.Admissions.{IsAdmittedDequeue, IsCaller, IsCheckedDequeue, IsChildless, scope_of, refusal_alone};
 ghost use Rattle.vlm_machine.specs.Between.{IsBetweenSteps};
 ghost use Rattle.vlm_machine.specs.Machine.{plain_state};
 ghost use Rattle.vlm_machine.specs.Notes.{HasRoomToNote, IsToSweep};
@@ -118,7 +119,7 @@ impl Machine {
     {
         match self.checked_scope(&checked.caller, checked.lkid) {
             Ok(scope) => {
-                self.deq_all_change(touched, dequeue, checked, scope);
+                self.deq_all_change(touched, checked, scope);
                 self.sweep_touched(touched);
                 Answer::Plain(Cond::Normal)
             }
@@ -154,21 +155,16 @@ impl Machine {
         ensures childless { OnOk result (IsChildless self.now dequeue.now located.now) }
     {
         let cancels = flags.has(DeqFlags::CANCEL);
-        self.check_cancel(dequeue, cancels, located)?;
+        self.check_cancel(cancels, located)?;
         self.check_sublocks(cancels, located)
     }
 
     // CANCELGRANT if the lock to cancel is granted.
     #[tactic(auto, unfolding(vlm_model::specs::Dequeue::cancel_refusal))]
-    fn check_cancel(
-        &self,
-        dequeue: &Dequeue,
-        cancels: bool,
-        located: &LocatedLock,
-    ) -> Result<(), Cond>
-        requires cancels { cancels ≡ has_flag dequeue.now.flags cancel }
-        requires admitted { IsAdmittedDequeue self.now dequeue.now located.now }
-        ensures { result_err result ≡ cancel_refusal (plain_state self.now) dequeue.now }
+    fn check_cancel(&self, cancels: bool, located: &LocatedLock) -> Result<(), Cond>
+        ensures { (d : Dequeue) → cancels ≡ has_flag d.flags cancel
+            → IsAdmittedDequeue self.now d located.now
+            → result_err result ≡ cancel_refusal (plain_state self.now) d }
     {
         if cancels && located.is_granted() {
             Err(Cond::Cancelgrant)
@@ -208,20 +204,15 @@ impl Machine {
         withdraw(&mut self.store, located, &withdrawal);
     }
 
-    fn deq_all_change(
-        &mut self,
-        touched: &mut Touched,
-        dequeue: &Dequeue,
-        checked: &CheckedDequeue,
-        scope: Scope,
-    )
-        requires checked { IsCheckedDequeue self.old dequeue.now checked.now }
+    fn deq_all_change(&mut self, touched: &mut Touched, checked: &CheckedDequeue, scope: Scope)
+        requires caller { IsCaller checked.now.caller self.old.records }
         requires scope { scope ≡ scope_of checked.now.lkid }
         requires own { IsOwnScope scope checked.now.caller.pid self.old.records }
         requires between { IsBetweenSteps (plain_state self.old) }
         requires notes { HasRoomToNote touched.old self.old }
-        requires all { has_flag dequeue.now.flags deqall ≡ true }
-        ensures change { plain_state self.new ≡ deq_change (plain_state self.old) dequeue.now }
+        ensures change { (d : Dequeue) → IsCheckedDequeue self.old d checked.now
+            → has_flag d.flags deqall ≡ true
+            → plain_state self.new ≡ deq_change (plain_state self.old) d }
         ensures to_sweep { IsToSweep touched.new self.new }
         ensures room { touched.new.room ≡ touched.old.room }
     {

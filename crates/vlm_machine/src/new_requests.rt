@@ -124,7 +124,7 @@ impl Machine {
             return Answer::Plain(Cond::Insfmem);
         };
         let new_lock = self.new_lock(request, checked);
-        match self.enq_change(request, &new_lock) {
+        match self.enq_change(&new_lock) {
             Ok(res) => {
                 self.sweep_entered(&new_lock, res);
                 Answer::Lock(
@@ -237,11 +237,11 @@ impl Machine {
     // The growth and the change: the lock enters its resource, its status block is written, and its numbers are used
     // up. If memory for the lock or for the ASTs of its routines is refused, nothing is changed, except that there may
     // be more room.
-    fn enq_change(&mut self, request: &NewRequest, new_lock: &NewLock) -> Result<ResAt, AllocError>
-        requires admitted { IsAdmitted self.old request.now new_lock.now }
+    fn enq_change(&mut self, new_lock: &NewLock) -> Result<ResAt, AllocError>
+        requires admitted { (e : NewRequest) × IsAdmitted self.old e new_lock.now }
         requires between { IsBetweenSteps (plain_state self.old) }
-        ensures change { OnOk result
-            (plain_state self.new ≡ enq_change (plain_state self.old) request.now) }
+        ensures change { OnOk result ((e : NewRequest) → IsAdmitted self.old e new_lock.now
+            → plain_state self.new ≡ enq_change (plain_state self.old) e) }
         ensures others { IfOk result (λ res. OthersStay res self.old.records self.new.records) }
         ensures there { IfOk result (λ res. HasResource res self.new.records) }
         ensures succeeds { HasRoomToEnter new_lock.now self.old.records → IsOk result }

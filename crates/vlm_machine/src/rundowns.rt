@@ -45,7 +45,7 @@ impl Machine {
         ensures to_sweep { IsToSweep touched.new self.new }
         ensures room { touched.new.room ≡ touched.old.room }
     {
-        end_process(&mut self.store, touched, caller.at, caller.pid);
+        end_process(&mut self.store, touched, caller.at);
     }
 
     /// Lets a node depart: its checks, its change, and one sweep of all touched resources.

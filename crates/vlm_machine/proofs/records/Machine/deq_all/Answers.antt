@@ -29,7 +29,7 @@ returns-in-Ok-clause-outcome c =
     let s = plain_state c.args.self.now in
     let refused = refused_for c.args.self.now c.args.dequeue.now c.args.checked.now c.requires.checked c.requires.all in
     made_swept s (plain_state c.sweep_touched.new.self) (Deq c.args.dequeue.now) (Plain Normal) refl (c.in-Ok.ensures.refusal ∙ sym refused)
-    (c.sweep_touched.ensures.swept ∙ ap state_after_sweep c.deq_all_change.ensures.change) refl
+    (c.sweep_touched.ensures.swept ∙ ap state_after_sweep (c.deq_all_change.ensures.change c.args.dequeue.now c.requires.checked c.requires.all)) refl
 
 pub returns-in-Err-clause-outcome : goal.returns-in-Err-clause-outcome
 returns-in-Err-clause-outcome c =

@@ -23,17 +23,15 @@ give_up_together-requires-clause-closed c =
     c.args.scope c.args.checked.now.caller.pid c.requires.own)
 
 pub returns-clause-change : goal.returns-clause-change
-returns-clause-change c =
+returns-clause-change c d checked all =
     let scope = c.args.scope in
-    let d = c.args.dequeue.now in
-    let checked = c.requires.checked in
     let new = c.give_up_together.new in
-    let nothing = gives_nothing d c.requires.all checked.fitting in
+    let nothing = gives_nothing d all checked.fitting in
     let invalidates = c.has-invalidates.ensures ∙ ap (λ bits. has_flag bits invvalblk) checked.flags in
     ap (λ (m : MachineState). plain_state (record m { records = new.store })) c.self.view_is
     ∙ state_given_up c.args.self.now (rw (← c.self.view_is) c.self.invariant.rest.sound)
-    (rw (← c.self.view_is) c.self.invariant.rest) c.requires.between d c.requires.all
-    (cancels_nothing d c.requires.all checked.fitting) nothing.0 nothing.1 scope (c.requires.scope
+    (rw (← c.self.view_is) c.self.invariant.rest) c.requires.between d all
+    (cancels_nothing d all checked.fitting) nothing.0 nothing.1 scope (c.requires.scope
     ∙ ap scope_of checked.lkid) new.store c.args.touched.now new.touched
     (subst (λ (m : MachineState). AreGivenUp scope (has_flag d.flags invvalblk) d.pid m.records new.store c.args.touched.now new.touched) c.self.view_is
     (subst (λ pid. AreGivenUp scope (has_flag d.flags invvalblk) pid c.self.inside.store new.store c.args.touched.now new.touched) checked.pid

@@ -22,6 +22,9 @@ use Rattle.vlm_machine.proofs.NothingToSweep.{stable_but}
 use Rattle.vlm_machine.proofs.records.Machine.enq.Goals as goal
 use Rattle.vlm_locks.proofs.Rising.{none_loose}
 
+pub enq_change-requires-clause-admitted : goal.enq_change-requires-clause-admitted
+enq_change-requires-clause-admitted c = (c.args.request.now, c.new_lock-new_lock.ensures)
+
 pub sweep_entered-requires-clause-stable : goal.sweep_entered-requires-clause-stable
 sweep_entered-requires-clause-stable c =
     stable_but c.args.self.now.records c.enq_change.new.self.records c.in-Ok-enq_change.res c.requires.between.stable c.in-Ok-enq_change.ensures.others
@@ -36,7 +39,7 @@ sweep_entered-requires-clause-at_once c at_once plain =
     let asked : new_lock.asked ≡ enq_request s e = same_Some new_lock.asked (enq_request s e) (ap (λ (row : LockState). row.want) is.row) in
     let now : enq_at_once s e ≡ true = sym is.at_once ∙ at_once in
     let all = all_quiet (enq_request s e) s.next_serial (enq_site s e) (enq_row s e) s.resources c.requires.between.stable now (rw asked at plain) in
-    subst (λ (t : State). AllByRecursion IsStable t.resources) (sym c.in-Ok-enq_change.ensures.change)
+    subst (λ (t : State). AllByRecursion IsStable t.resources) (sym (c.in-Ok-enq_change.ensures.change e c.new_lock-new_lock.ensures))
     (subst (λ now_at_once. AllByRecursion IsStable (resources_after_entry s.next_serial (enq_site s e) (enq_row s e) now_at_once s.resources)) (sym now) all)
 
 pub returns-in-Ok-enq_change-clause-outcome : goal.returns-in-Ok-enq_change-clause-outcome
@@ -50,7 +53,7 @@ returns-in-Ok-enq_change-clause-outcome c =
     let wants = ap (λ (row : LockState). row.want) is.row in
     let asked : new_lock.asked ≡ enq_request s e = same_Some new_lock.asked (enq_request s e) wants in
     made_swept s (plain_state c.sweep_entered.new.self) (Enq e) (Lock c.acceptance.result new_lock.lkid) refl passed
-    (c.sweep_entered.ensures ∙ ap state_after_sweep c.in-Ok-enq_change.ensures.change)
+    (c.sweep_entered.ensures ∙ ap state_after_sweep (c.in-Ok-enq_change.ensures.change e c.new_lock-new_lock.ensures))
     (ap (λ answer. Lock answer new_lock.lkid) c.acceptance.ensures
     ∙ ap (λ (q : Request). Lock (acceptance (flag_bits q.flags) new_lock.at_once) new_lock.lkid) asked
     ∙ ap (λ at_once. Lock (acceptance e.flags at_once) new_lock.lkid) is.at_once

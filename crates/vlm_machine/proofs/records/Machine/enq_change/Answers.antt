@@ -13,7 +13,7 @@ use Rattle.vlm_machine.proofs.records.Machine.enq_change.Goals as goal
 pub enter-requires-clause-may_enter : goal.enter-requires-clause-may_enter
 enter-requires-clause-may_enter c =
     let between = subst (λ (m : MachineState). IsBetweenSteps (plain_state m)) (sym c.self.view_is) c.requires.between in
-    let admitted = subst (λ (m : MachineState). IsAdmitted m c.args.request.now c.args.new_lock.now) (sym c.self.view_is) c.requires.admitted in
+    let admitted = subst (λ (m : MachineState). IsAdmitted m c.requires.admitted.0 c.args.new_lock.now) (sym c.self.view_is) c.requires.admitted.1 in
     let lkid : c.args.new_lock.now.lkid ≡ c.self.inside.last_lkid + 1 = ap (λ (r : LockState). r.lkid) admitted.entered.row in
     record {
       rest = c.self.invariant.rest;
@@ -33,11 +33,10 @@ invariant_of-self c = record {
 
 -- the plain machine's change
 pub returns-clause-change : goal.returns-clause-change
-returns-clause-change c =
+returns-clause-change c e admitted =
     let m = kept c.self.inside in
-    let e = c.args.request.now in
     let new_lock = c.args.new_lock.now in
-    let is = (subst (λ (m : MachineState). IsAdmitted m e c.args.new_lock.now) (sym c.self.view_is) c.requires.admitted).entered in
+    let is = (subst (λ (m : MachineState). IsAdmitted m e c.args.new_lock.now) (sym c.self.view_is) admitted).entered in
     rw (← c.self.view_is)
     (entered_state m e new_lock is c.enter.new.store (c.self.inside.last_lkid + 1 + 1)
     (c.self.inside.last_request + 1 + 1) (c.last_given-self-inside.result + 1)
