@@ -9,7 +9,7 @@ ghost use Rattle.vlm_model.specs.Checks.{holds_lock};
 ghost use Rattle.vlm_store.specs.Plain.{plain_resources};
 ghost use Rattle.vlm_store.specs.Records.{IsStored, Stores};
 ghost use Rattle.vlm_locks.specs.Rest.{IsAtRest};
-ghost use Rattle.vlm_locks.specs.Standing.{IsLocated, IsLocatedLockOf};
+ghost use Rattle.vlm_locks.specs.Standing.{IsLockOf, IsLocated};
 
 use vlm_store::{LockAt, ProcAt, ResAt, Store, StoredState};
 use vlm_words::resources::Queue;
@@ -53,16 +53,15 @@ pub fn located_lock(store: &Store, lock: LockAt) -> LocatedLock
     }
 }
 
-/// Locates the lock with this ID, if there is one and the process owns it.
-pub fn find_lock(store: &Store, pid: u32, lkid: u32) -> Option<LocatedLock>
+/// The lock with this ID, if there is one and the process owns it.
+pub fn find_lock(store: &Store, pid: u32, lkid: u32) -> Option<LockAt>
     requires { IsAtRest store.now }
     ensures held { is_some result ≡ list_any (holds_lock pid lkid) (plain_resources store.now) }
-    ensures lock { IfSome result (λ located. IsLocatedLockOf pid lkid located store.now) }
+    ensures lock { IfSome result (λ lock. IsLockOf pid lkid lock store.now) }
 {
     let lock = store.lock(lkid)?;
-    let located = located_lock(store, lock);
-    if located.row.pid() == pid {
-        Some(located)
+    if store.lock_record(lock).row.pid() == pid {
+        Some(lock)
     } else {
         None
     }
