@@ -166,28 +166,26 @@ def plain(text):
 
 
 def help_forms(_program):
-    """docs/SCRIPT.md and the manual page have each command's form, and each option, as the help has."""
-    manual, page = plain(MANUAL.read_text()), text_of("docs/SCRIPT.md")
+    """The manual page has each command's form, and each option, as the help has."""
+    manual = plain(MANUAL.read_text())
     if len(forms()) < 13:
         yield f"the help names {forms()}"
     options = re.findall(r'Arg::new\(alloc, "(\w+)"', text_of("crates/vlm/src/arguments.rt"))
     options = options or ["nodes", "name", "group"]
     for form in [*forms(), *(f"--{it}" for it in options)]:
-        if form not in page:
-            yield f"docs/SCRIPT.md has no {form}"
         if form not in manual:
             yield f"man/vlm.1 has no {form}"
 
 
 def flags(_program):
-    """The manual page, docs/SCRIPT.md and docs/MACHINE.md name each flag of a request that the help names."""
+    """The manual page and docs/MACHINE.md name each flag of a request that the help names."""
     line = next(it for it in help_texts()["PLAY_HELP"].splitlines() if it.startswith("The flags are "))
     named = re.findall(r"[a-z]+", line.removeprefix("The flags are ").replace(" and ", " "))
     if len(named) < 9:
         yield f"the help names {named}"
     for flag in named:
-        for name, word in (("man/vlm.1", flag), ("docs/SCRIPT.md", f"`{flag}`"), ("docs/MACHINE.md", flag.upper())):
-            if word not in text_of(name):
+        for name, word in (("man/vlm.1", flag), ("docs/MACHINE.md", flag.upper())):
+            if not re.search(rf"\b{word}\b", text_of(name)):
                 yield f"{name} has no {word}"
 
 
