@@ -107,7 +107,7 @@ uint32_t vlm_client_start_enq(vlm_client *client, vlm_threads_request *request, 
 uint32_t vlm_client_start_convert(vlm_client *client, vlm_threads_request *request);
 uint32_t vlm_client_deq(vlm_client *client, const vlm_threads_dequeue *dequeue);
 
-/* Reads what the service tells of locks, by a line of docs/SERVICE.md whose answer ends with a blank line: `word` is
+/* Reads what the service tells of locks, by a line of vlm-protocol(7) whose answer ends with a blank line: `word` is
  * "who", "locks" or another of them. With an lkid that is not 0 the line names that lock. *text has the lines of the
  * answer without the blank one, each with its line feed, and a zero at the end. The caller frees it; it is null unless
  * the answer is NORMAL. A text such as "no such lock" is an answer too. Costs what the line costs the service, and

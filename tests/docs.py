@@ -189,6 +189,31 @@ def flags(_program):
                 yield f"{name} has no {word}"
 
 
+def headings(page, *sections):
+    """The headings of the paragraphs in sections of a manual page, each with commas between its parts."""
+    found = [page.partition(f".SH {it}\n")[2].partition("\n.SH ")[0].replace("\\\n", "") for it in sections]
+    lines = re.findall(r"^\.TP\n(.*)", "\n".join(found), re.M)
+    return {it.strip() for line in lines for it in re.sub(r"\\f[BIR]|^\.[BIR]{1,2} |[\"]", "", line).split(",")}
+
+
+def protocol(_program):
+    """man/vlm-protocol.7 has each line that the service reads, and each text of its own that it answers. Those that
+    scripts have too are in man/vlm.1."""
+    page, sources = text_of("man/vlm-protocol.7"), [it.read_text() for it in (TOP / "service").glob("*.c")]
+    texts = {text for source in sources for text in re.findall(r'"([a-z ]+)(?:\\n)+"', source)}
+    words = {word for source in sources for word in re.findall(r'is_word\(words\[0\], "(\w+)"\)', source)}
+    words |= set(re.findall(r'\{"(\w+)", tell_', text_of("service/locks.c")))
+    if len(texts) < 30 or len(words) < 13:
+        yield f"the sources of the service have {sorted(texts)} and {sorted(words)}"
+    shown = headings(page, "REFUSALS", "LAST LINES")
+    quoted = set(re.findall(r'"([a-z ]+)"', page.replace("\n", " ")))
+    of_scripts = headings(text_of("man/vlm.1"), "FAULTS") | {"no resources"}
+    yield from (f"man/vlm-protocol.7 has no {it}" for it in sorted(texts - shown - quoted - of_scripts))
+    yield from (f"the service has no text {it}" for it in sorted(shown - texts))
+    read = {it.split()[0] for it in headings(page, "LINES", "SINGLE LOCKS")}
+    yield from (f"man/vlm-protocol.7 has no line {it}" for it in sorted(words - read))
+
+
 def calls(_program):
     """The manual page of the library has one line for each call of the headers."""
     page = text_of("man/vlm.3")
@@ -409,7 +434,7 @@ def proof_files(_program):
 
 def checks():
     return (functions, proof_files, short_readme, crate_table, public_names, laws, refusals, sizes, help_forms, flags,
-            calls, symbols, argument_order, bound_calls, numbers, version, kit, links, files)
+            protocol, calls, symbols, argument_order, bound_calls, numbers, version, kit, links, files)
 
 
 def blocks():
