@@ -75,7 +75,8 @@ typedef struct vlm_client_options {
  * VLM_LOST: there is no service, it speaks another protocol, it refuses the connection, or a Unix socket is a
  * replica's: sessions there have leases, which a client keeps at addresses of TCP alone. With TLS also: a file can't be
  * read, the certificate of the replica is not of the host that the address names, or there is no libvlm-tls.so.1, by
- * which this library calls OpenSSL.
+ * which this library calls OpenSSL. The library loads it from its own folder or where the loader looks; with libvlm.a
+ * only where the loader looks.
  * INSFMEM: memory, a thread or an eventfd was refused.
  * BADPARAM: the options are malformed or of another version. */
 uint32_t vlm_client_open(const vlm_client_options *options, vlm_client **client);
