@@ -202,16 +202,17 @@ def protocol(_program):
     page, sources = text_of("man/vlm-protocol.7"), [it.read_text() for it in (TOP / "service").glob("*.c")]
     texts = {text for source in sources for text in re.findall(r'"([a-z ]+)(?:\\n)+"', source)}
     words = {word for source in sources for word in re.findall(r'is_word\(words\[0\], "(\w+)"\)', source)}
-    words |= set(re.findall(r'\{"(\w+)", tell_', text_of("service/locks.c")))
-    if len(texts) < 30 or len(words) < 13:
-        yield f"the sources of the service have {sorted(texts)} and {sorted(words)}"
+    readings = set(re.findall(r'\{"(\w+)", tell_', text_of("service/locks.c")))
+    if len(texts) < 30 or len(words) < 7 or len(readings) < 7:
+        yield f"the sources of the service have {sorted(texts)}, {sorted(words)} and {sorted(readings)}"
     shown = headings(page, "REFUSALS", "LAST LINES")
     quoted = set(re.findall(r'"([a-z ]+)"', page.replace("\n", " ")))
     of_scripts = headings(text_of("man/vlm.1"), "FAULTS") | {"no resources"}
     yield from (f"man/vlm-protocol.7 has no {it}" for it in sorted(texts - shown - quoted - of_scripts))
     yield from (f"the service has no text {it}" for it in sorted(shown - texts))
-    read = {it.split()[0] for it in headings(page, "LINES", "SINGLE LOCKS")}
-    yield from (f"man/vlm-protocol.7 has no line {it}" for it in sorted(words - read))
+    for section, wanted in (("LINES", words | readings), ("SINGLE LOCKS", readings)):
+        named = {it.split()[0] for it in headings(page, section)}
+        yield from (f"{section} of man/vlm-protocol.7 has no line {it}" for it in sorted(wanted - named))
 
 
 def calls(_program):
