@@ -262,7 +262,7 @@ typedef struct vlm_ast {
     uint32_t reserved[3];
 } vlm_ast;
 
-/* What a line of a script asks for: docs/SCRIPT.md has the lines. */
+/* What a line of a script asks for: vlm(1) has the lines. */
 enum {
     VLM_LINE_EMPTY = 0, /* no word, or a comment */
     VLM_LINE_DECLARE = 1,

@@ -75,7 +75,8 @@ typedef struct vlm_client_options {
  * VLM_LOST: there is no service, it speaks another protocol, it refuses the connection, or a Unix socket is a
  * replica's: sessions there have leases, which a client keeps at addresses of TCP alone. With TLS also: a file can't be
  * read, the certificate of the replica is not of the host that the address names, or there is no libvlm-tls.so.1, by
- * which this library calls OpenSSL.
+ * which this library calls OpenSSL. The library loads it from its own folder or where the loader looks; with libvlm.a
+ * only where the loader looks.
  * INSFMEM: memory, a thread or an eventfd was refused.
  * BADPARAM: the options are malformed or of another version. */
 uint32_t vlm_client_open(const vlm_client_options *options, vlm_client **client);
@@ -107,7 +108,7 @@ uint32_t vlm_client_start_enq(vlm_client *client, vlm_threads_request *request, 
 uint32_t vlm_client_start_convert(vlm_client *client, vlm_threads_request *request);
 uint32_t vlm_client_deq(vlm_client *client, const vlm_threads_dequeue *dequeue);
 
-/* Reads what the service tells of locks, by a line of docs/SERVICE.md whose answer ends with a blank line: `word` is
+/* Reads what the service tells of locks, by a line of vlm-protocol(7) whose answer ends with a blank line: `word` is
  * "who", "locks" or another of them. With an lkid that is not 0 the line names that lock. *text has the lines of the
  * answer without the blank one, each with its line feed, and a zero at the end. The caller frees it; it is null unless
  * the answer is NORMAL. A text such as "no such lock" is an answer too. Costs what the line costs the service, and

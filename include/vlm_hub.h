@@ -22,6 +22,11 @@
  * - for a step of another node than the port's.
  *
  * 64 posts of a node and 64 items for it have room between a port and the hub. No call of a port takes memory.
+ *
+ * Two things of Rattle's hub are not here. `settle` counts what is left between the hub and a port whose thread has
+ * ended: empty them instead, by taking until nothing comes and turning until a turn makes nothing, again and again
+ * until neither finds anything. Watchers of resources: a publish may wait, which the kit lets no static library do, so
+ * replay the journal into a lock manager of your own.
  */
 #ifndef VLM_HUB_H
 #define VLM_HUB_H

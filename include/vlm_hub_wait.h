@@ -14,6 +14,10 @@
  *
  *     vlm_hub_stop(&service);                           any thread
  *
+ * Only vlm_bell_wait, vlm_port_next, vlm_port_block and vlm_hub_run wait. A loop of the program's own in the hub's
+ * thread calls vlm_hub_turn_ringing, and vlm_hub_answer_reads after each turn if threads of ports read status blocks.
+ * One in the thread of a port rings the hub's bell after a post and after taking items.
+ *
  * The layer is plain C over pthreads and Linux's eventfd. It is tested, and not proved. No call takes memory.
  *
  * What the caller owes, beside what vlm_hub.h says:

@@ -1,5 +1,5 @@
 /* The dispatcher of the lock service: bytes of clients in, bytes to clients out. It owns the lock manager and has no
- * input and output of its own, so it can be tested alone. docs/SERVICE.md teaches the protocol. Nothing here is proved.
+ * input and output of its own, so it can be tested alone. vlm-protocol(7) has its lines. Nothing here is proved.
  *
  * One thread calls it. A turn of the daemon is: dispatcher_tick with the time, client_hear for each client that has
  * sent something, dispatcher_run for the lines that are left, and then dispatcher_changed until it returns null: each

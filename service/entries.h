@@ -1,6 +1,10 @@
 /* The entries of the list, as bytes. A batch begins with the name of the replica that made it and with its number,
  * which counts from 1. Its entries follow, each with a number too, so that a batch without some of its entries has the
- * others at their places. All numbers are little-endian. Nothing here is proved. */
+ * others at their places. All numbers are little-endian. Nothing here is proved.
+ *
+ * No entry has a time: replicas agree on an order and on nothing else. The revision that the list gives a batch and the
+ * number of an entry are the entry's place. A revision has 2^20 places, and from the first of them the fencing tokens
+ * of the batch's grants count. */
 #ifndef ENTRIES_H
 #define ENTRIES_H
 

@@ -3,7 +3,18 @@
  * A beat is an entry by which the leases of sessions last their whole time again. A client counts its lease from before
  * it asked for a beat that was answered. A replica counts from when the last beat came by, which is later. The end of a
  * session names that beat, and does nothing if another one came by first. So no session ends while its client counts on
- * it. This rests on clocks that run equally fast and on the order of the list, and on nothing else. */
+ * it. This rests on clocks that run equally fast and on the order of the list, and on nothing else.
+ *
+ * Take an end that took effect, and the last beat B of the session before it. The end names B, since it would do
+ * nothing otherwise. The replica that sent it had run B and then waited for the whole lease. A client that asks for a
+ * beat after the end hears `session ended`; after a kill or the end of an epoch, `session killed` or `lost`. So the
+ * last beat that was answered is B or an earlier one. The client counts from before it asked for that beat, and so from
+ * before the replica ran B. So its count was over when the end was sent, and before another client was granted
+ * anything.
+ *
+ * Each replica appends a beat each second while there are clients, and looks for leases that are over only when that
+ * beat comes by. It sends their ends a second later. So after a time in which the list could not grow, the beats that
+ * wait at all replicas come first. */
 #include "parts.h"
 
 #include <string.h>

@@ -4,9 +4,13 @@
  * links.c    connections of clients to this replica
  * entries.c  entries as bytes
  *
+ * list.c has the pipes to service/list/vlm-list, the program that appends to the list, follows it and packs it.
+ *
  * Each replica has the dispatcher's clients of all replicas. A client that is connected here has a link: its bytes
  * become lines, lines that may change something become entries, and a line that reads runs here once all earlier ones
- * have run. */
+ * have run. So a client's line goes to its replica, which appends it, sees it come by as all replicas do, runs it, and
+ * answers. A replica has one append under way, since several at once were no faster. The lines that it gets meanwhile
+ * go together in its next batch. */
 #ifndef REPLICA_PARTS_H
 #define REPLICA_PARTS_H
 

@@ -175,7 +175,7 @@ def reads(root):
     """man shows the pages of the calls and the commands."""
     for page, word in (("vlm_enq", r"vlm_enq\(vlm \*handle"), ("3 vlm", "LIBRARY|CALLS"), ("1 vlm", "SCRIPTS"),
                        ("vlmd", "CONFIGURATION"), ("vlm-lock", "SYNOPSIS"), ("vlm-who", "SYNOPSIS"),
-                       ("vlm-draw", "--svg")):
+                       ("vlm-protocol", "SINGLE LOCKS"), ("vlm-draw", "--svg")):
         text = root.run(f"man {page}", "user").stdout
         if not re.search(word, text):
             yield f"man {page} shows {text[:200]!r}"

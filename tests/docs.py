@@ -166,29 +166,53 @@ def plain(text):
 
 
 def help_forms(_program):
-    """docs/SCRIPT.md and the manual page have each command's form, and each option, as the help has."""
-    manual, page = plain(MANUAL.read_text()), text_of("docs/SCRIPT.md")
+    """The manual page has each command's form, and each option, as the help has."""
+    manual = plain(MANUAL.read_text())
     if len(forms()) < 13:
         yield f"the help names {forms()}"
     options = re.findall(r'Arg::new\(alloc, "(\w+)"', text_of("crates/vlm/src/arguments.rt"))
     options = options or ["nodes", "name", "group"]
     for form in [*forms(), *(f"--{it}" for it in options)]:
-        if form not in page:
-            yield f"docs/SCRIPT.md has no {form}"
         if form not in manual:
             yield f"man/vlm.1 has no {form}"
 
 
 def flags(_program):
-    """The manual page, docs/SCRIPT.md and docs/MACHINE.md name each flag of a request that the help names."""
+    """The manual page and docs/MACHINE.md name each flag of a request that the help names."""
     line = next(it for it in help_texts()["PLAY_HELP"].splitlines() if it.startswith("The flags are "))
     named = re.findall(r"[a-z]+", line.removeprefix("The flags are ").replace(" and ", " "))
     if len(named) < 9:
         yield f"the help names {named}"
     for flag in named:
-        for name, word in (("man/vlm.1", flag), ("docs/SCRIPT.md", f"`{flag}`"), ("docs/MACHINE.md", flag.upper())):
-            if word not in text_of(name):
+        for name, word in (("man/vlm.1", flag), ("docs/MACHINE.md", flag.upper())):
+            if not re.search(rf"\b{word}\b", text_of(name)):
                 yield f"{name} has no {word}"
+
+
+def headings(page, *sections):
+    """The headings of the paragraphs in sections of a manual page, each with commas between its parts."""
+    found = [page.partition(f".SH {it}\n")[2].partition("\n.SH ")[0].replace("\\\n", "") for it in sections]
+    lines = re.findall(r"^\.TP\n(.*)", "\n".join(found), re.M)
+    return {it.strip() for line in lines for it in re.sub(r"\\f[BIR]|^\.[BIR]{1,2} |[\"]", "", line).split(",")}
+
+
+def protocol(_program):
+    """man/vlm-protocol.7 has each line that the service reads, and each text of its own that it answers. Those that
+    scripts have too are in man/vlm.1."""
+    page, sources = text_of("man/vlm-protocol.7"), [it.read_text() for it in (TOP / "service").glob("*.c")]
+    texts = {text for source in sources for text in re.findall(r'"([a-z ]+)(?:\\n)+"', source)}
+    words = {word for source in sources for word in re.findall(r'is_word\(words\[0\], "(\w+)"\)', source)}
+    readings = set(re.findall(r'\{"(\w+)", tell_', text_of("service/locks.c")))
+    if len(texts) < 30 or len(words) < 7 or len(readings) < 7:
+        yield f"the sources of the service have {sorted(texts)}, {sorted(words)} and {sorted(readings)}"
+    shown = headings(page, "REFUSALS", "LAST LINES")
+    quoted = set(re.findall(r'"([a-z ]+)"', page.replace("\n", " ")))
+    of_scripts = headings(text_of("man/vlm.1"), "FAULTS") | {"no resources"}
+    yield from (f"man/vlm-protocol.7 has no {it}" for it in sorted(texts - shown - quoted - of_scripts))
+    yield from (f"the service has no text {it}" for it in sorted(shown - texts))
+    for section, wanted in (("LINES", words | readings), ("SINGLE LOCKS", readings)):
+        named = {it.split()[0] for it in headings(page, section)}
+        yield from (f"{section} of man/vlm-protocol.7 has no line {it}" for it in sorted(wanted - named))
 
 
 def calls(_program):
@@ -411,7 +435,7 @@ def proof_files(_program):
 
 def checks():
     return (functions, proof_files, short_readme, crate_table, public_names, laws, refusals, sizes, help_forms, flags,
-            calls, symbols, argument_order, bound_calls, numbers, version, kit, links, files)
+            protocol, calls, symbols, argument_order, bound_calls, numbers, version, kit, links, files)
 
 
 def blocks():

@@ -46,7 +46,7 @@ FILES = ("bin/vlm", *(f"{folder}{it.relative_to(TOP)}" for folder, files in COPI
 # Of the lock service, where the header of libuv is.
 SERVICE_FILES = ("bin/vlmd", "lib/systemd/system/vlmd.service", "lib/systemd/system/vlmd.socket",
                  *(f"libexec/vlm/list/{name}" for name in ("chunks.py", "etcd_list.py", "members.py", "vlm-list")),
-                 "share/man/man8/vlmd.8", "share/vlm/vlmd.conf")
+                 "share/man/man7/vlm-protocol.7", "share/man/man8/vlmd.8", "share/vlm/vlmd.conf")
 # For connections with TLS, where the headers of OpenSSL are.
 TLS_FILES = ("lib/libvlm-tls.so.1",)
 TLS = TOP / "bindings" / "c" / "tls" / "vlm_tls.c"

@@ -115,17 +115,33 @@ def talk(name, start, _program):
         yield from difference(client.line() in ("alive", "no session"), True)
 
 
-def shown_talk(_program):
-    """What is wrong with the first session that docs/SERVICE.md shows."""
-    page = (TOP / "docs" / "SERVICE.md").read_text()
-    lines = re.search(r"^```text\n(vlm protocol.*?)^```", page, re.M | re.S)[1].splitlines()
-    with Daemon() as daemon, daemon.client() as client:
+def shown_connection(daemon, lines):
+    """What is wrong with the lines of a connection that a page shows."""
+    with daemon.client() as client:
         yield from difference(client.greeting, lines[0])
         for line in lines[1:]:
             if line.startswith("> "):
                 client.send(line[2:])
             else:
                 yield from difference(client.line(), line)
+
+
+def shown_talk(_program):
+    """What is wrong with the first session that docs/SERVICE.md shows."""
+    page = (TOP / "docs" / "SERVICE.md").read_text()
+    lines = re.search(r"^```text\n(vlm protocol.*?)^```", page, re.M | re.S)[1].splitlines()
+    with Daemon() as daemon:
+        yield from shown_connection(daemon, lines)
+
+
+def shown_resume(_program):
+    """What is wrong with the two connections of a session that man/vlm-protocol.7 shows."""
+    page = (TOP / "man" / "vlm-protocol.7").read_text()
+    shown = re.findall(r"^\.nf\n(vlm protocol 1.*?)^\.fi", page, re.M | re.S)
+    yield from difference(len(shown), 2)
+    with Daemon() as daemon:
+        for connection in shown:
+            yield from shown_connection(daemon, connection.splitlines())
 
 
 def half_lines(_program):
@@ -947,7 +963,8 @@ def clients(compiler, sanitizer, _program):
 
 
 BEHAVIOURS = {"a daemon without a log": without_log,
-              "the first session of the page": shown_talk, "half lines": half_lines, "killed clients": killed,
+              "the first session of the page": shown_talk,
+              "the session of the manual page": shown_resume, "half lines": half_lines, "killed clients": killed,
               "a client that reads no answers": deaf, "a client that reads no ASTs": cut_off,
               "many long answers": long_answers, "many lines of one client": fair,
               "lines that come again": repeated_lines, "lines that are remembered": known_lines,

@@ -374,14 +374,33 @@ def headers(compiler, _program):
 
 
 def page(_program):
-    """docs/VMS.md names each service, flag, condition and setting."""
+    """docs/VMS.md names each service and setting."""
     text = (TOP / "docs" / "VMS.md").read_text()
-    there = {name for it in HEADERS for name in re.findall(r"^#define ((?:SS\$_|LCK\$M_)\w+)", it.read_text(), re.M)}
-    there |= declared()
-    named = set(re.findall(r"`((?:sys|lib)\$\w+|SS\$_\w+|LCK\$M_\w+)`", text))
-    yield from (f"docs/VMS.md has no {name}" for name in sorted(there - named))
+    named = set(re.findall(r"`((?:sys|lib)\$\w+)`", text))
+    yield from (f"docs/VMS.md has no {name}" for name in sorted(declared() - named))
     settings = {name for it in SOURCES for name in re.findall(r'vms_setting\("(\w+)"\)', it.read_text())}
     yield from (f"docs/VMS.md has no VLM${name}" for name in sorted(settings) if f"`VLM${name}`" not in text)
+
+
+def meanings(_program):
+    """The headers say what each flag and condition means, or else docs/MACHINE.md does of the same name, or starlet.h
+    at the services."""
+    machine = (TOP / "docs" / "MACHINE.md").read_text()
+    said = "".join(re.search(rf"^## {it} .*?(?=^## )", machine, re.M | re.S)[0] for it in ("Flags", "Conditions"))
+    said = set(re.findall(r"\b\d+\s+([A-Z]+)\b", said))
+    services = set(re.findall(r"SS\$_\w+", (TOP / "vms" / "include" / "starlet.h").read_text()))
+    count = 0
+    for header in HEADERS:
+        lines = header.read_text().splitlines()
+        for above, line in zip(lines, lines[1:]):
+            named = re.match(r"#define ((?:SS\$_|LCK\$M_)(\w+)) \w+(.*)", line)
+            if not named:
+                continue
+            count += 1
+            if not (above.endswith("*/") or "/*" in named[3] or named[2] in said or named[1] in services):
+                yield f"{header.name} does not say what {named[1]} means"
+    if count < 40:
+        yield f"the headers define {count} flags and conditions"
 
 
 def by_page(_program):
@@ -417,7 +436,7 @@ def once():
     found += [Test("a decimal comma", in_locale)] * (bool(links) and bool(shutil.which("localedef")))
     found += [Test("the services by TLS", secured)] * (bool(links) and not service_tls.missing())
     found += [Test("examples alone", alone), Test("the names that the libraries for OpenVMS show", names_shown),
-              Test("docs/VMS.md against the headers", page)]
+              Test("docs/VMS.md against the headers", page), Test("flags and conditions in the headers", meanings)]
     found += [Test("the commands of docs/VMS.md", by_page)] * bool(shutil.which("pkg-config"))
     for compiler in filter(shutil.which, library.COMPILERS):
         found.append(Test(f"the headers for OpenVMS by {compiler}", partial(headers, compiler)))

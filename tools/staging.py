@@ -19,7 +19,7 @@ FOLDERS = ("bin", "include", "include/vlm-vms", "lib", "lib/pkgconfig", "lib/cma
            "libexec/vlm", "share", "share/bash-completion", "share/bash-completion/completions", "share/doc", DOCUMENTS,
            f"{DOCUMENTS}/docs", f"{DOCUMENTS}/examples", f"{DOCUMENTS}/examples/c", f"{DOCUMENTS}/vms",
            f"{DOCUMENTS}/vms/examples", "share/man", "share/man/man1", "share/man/man3", "share/vlm")
-SERVICE_FOLDERS = ("lib/systemd", "lib/systemd/system", "libexec/vlm/list", "share/man/man8")
+SERVICE_FOLDERS = ("lib/systemd", "lib/systemd/system", "libexec/vlm/list", "share/man/man7", "share/man/man8")
 HEADERS = sorted((TOP / "include").glob("*.h*"))
 # Files that are installed as they are, and their folders. The documents keep their places, so that their links lead to
 # each other.
@@ -41,6 +41,7 @@ SERVICE = {
     TOP / "service" / "systemd" / "vlmd.service": "lib/systemd/system",
     TOP / "service" / "systemd" / "vlmd.socket": "lib/systemd/system",
     TOP / "service" / "vlmd.conf": "share/vlm",
+    TOP / "man" / "vlm-protocol.7": "share/man/man7",
     TOP / "man" / "vlmd.8": "share/man/man8",
 }
 

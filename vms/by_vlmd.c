@@ -1,4 +1,4 @@
-/* The lock service vlmd, by vlm_client.h. Readings are lines of the service, which docs/SERVICE.md has. */
+/* The lock service vlmd, by vlm_client.h. Readings are lines of the service, which vlm-protocol(7) has. */
 #include "parts.h"
 
 #include <vlm_client.h>

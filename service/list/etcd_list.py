@@ -8,7 +8,15 @@ revision. Keys below the prefix:
 
 The client library knows one member of etcd. So each call here asks one member after another, each with a time-out.
 Appends, reads and watches each have a member of their own, and leave it when it fails. A call may
-have taken effect although its answer is lost: every call below may be repeated.
+have taken effect although its answer is lost: every call below may be repeated. An append is repeated under the same
+key, unless the watch shows it.
+
+A replica learns of batches by a watch, and of its own ones by the answer to the append too: if that has the next
+revision, no other batch can come before it.
+
+A call ends after two seconds, and is made again at the next member. That is too long where etcd's leader hangs, so
+meanwhile `call` asks by `is_present` whether the member still answers, and whether another leader was elected. If all
+members refuse, the replica ends, and its log has what etcd says.
 """
 
 import logging

@@ -1,7 +1,8 @@
 #!/usr/bin/env python3
 """Stops the leader of etcd for a while, under clients of the service, whose replicas ask the leader first, and under
 plain puts at the other members. Fails if the longest time without a step is more than 1.5 times that without a put, or
-if a session ends. Other programs may keep the machine busy in one try, so the best of a few tries counts."""
+if a session ends. Other programs may keep the machine busy in one try, so the best of a few tries counts. By hand,
+with VLM_PREFIX=PREFIX for what `./vlm install PREFIX` left: ./hang.py"""
 
 import argparse
 import signal

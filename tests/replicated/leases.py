@@ -1,7 +1,7 @@
 #!/usr/bin/env python3
 """Clients that hold locks keep their leases alive, and others wait for the same locks, while something hangs. Fails if
 one of the others is granted a lock while its holder's lease goes on, by the lease rule: it lasts from before the holder
-sent the last line that was answered."""
+sent the last line that was answered. For long, with VLM_PREFIX=PREFIX: ./leases.py --runs 15"""
 
 import argparse
 import signal

@@ -1,4 +1,6 @@
-"""Two replicas of vlmd over one member of etcd, as processes, and clients of their lines."""
+"""Two replicas of vlmd over one member of etcd, as processes, and clients of their lines. A thousand races of two
+connections for a session, with VLM_PREFIX=PREFIX for what `./vlm install PREFIX` left:
+VLM_RACES=1000 /usr/bin/python3 -m unittest test_service.Service.test_two_connections_of_a_session_race"""
 
 import os
 import random

@@ -1,6 +1,6 @@
 /* A dispatcher without a daemon, and clients that ask for much or do not read. A turn has 64 lines of a client, and no
  * more lines once they have read 10,000 locks. After 64 KiB of unread answers no line of a client is run until it
- * reads, and with more than 1 MiB it is cut off. docs/SERVICE.md says these numbers. */
+ * reads, and with more than 1 MiB it is cut off. vlmd(8) has these numbers. */
 #include "check.h"
 #include "parts.h"
 

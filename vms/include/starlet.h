@@ -46,7 +46,9 @@ typedef unsigned long long VMS$PARAMETER;
  *   services answer SS$_NODELEAVE. Or it is null.
  * acmode: is not looked at. rsdm_id: 0. Further arguments are not looked at.
  *
- * SS$_NORMAL: accepted. SS$_SYNCH: granted at once, with LCK$M_SYNCSTS; the event flag is not set, and no AST comes.
+ * SS$_NORMAL: accepted. SS$_SYNCH: granted at once, with LCK$M_SYNCSTS; the event flag is not set, and no AST comes. A
+ * grant at once has written the status block when the call returns. With SS$_NORMAL it has also set the event flag, and
+ * its AST has run where ASTs are delivered.
  * Refused: SS$_ACCVIO (lksb or resnam is null), SS$_BADPARAM, SS$_CVTUNGRANT, SS$_EXDEPTH, SS$_EXENQLM (the quota; or
  * 255 requests are under way), SS$_ILLEFC, SS$_INSFMEM, SS$_IVBUFLEN, SS$_IVLOCKID, SS$_NOLOCKID, SS$_NOSYSLCK,
  * SS$_NOTQUEUED, SS$_PARNOTGRANT, SS$_UNASEFC, SS$_UNREACHABLE, SS$_NODELEAVE, SS$_UNSUPPORTED. */
@@ -100,7 +102,9 @@ int sys$synch(unsigned int efn, void *iosb);
 /* ASTs. One runs at a time: in a thread that is in a service of this header, while it waits and at the end of its call,
  * or in a thread of the layer if there is none. In an AST routine no other AST is delivered. The program's first thread
  * waits at each service until a routine that runs has returned. What it does between services may be at the same time
- * as a routine: turn the delivery off there, or set VLM$ASTS to wait, and no thread of the layer delivers. */
+ * as a routine: turn the delivery off there, or set VLM$ASTS to wait, and no thread of the layer delivers.
+ *
+ * A blocking AST that is pending goes with its lock and with its grant; a completion AST stays. */
 
 /* Turns the delivery on (1) or off (0). SS$_WASSET, SS$_WASCLR: it was on, off before. Off waits for the end of a
  * routine that another thread runs. On delivers what is pending. */

@@ -1,5 +1,5 @@
 """Plays scripts by vlm.script: the worked ones print what the program prints, and faulty ones end with their faults.
-docs/SCRIPT.md says what a line does."""
+vlm(1) says what a line does."""
 
 import pickle
 import sys

@@ -1,4 +1,4 @@
-"""The lines of a script: docs/SCRIPT.md of the repository has the language and its faults. The library reads them."""
+"""The lines of a script: the manual page vlm(1) has the language and its faults. The library reads them."""
 
 from ctypes import byref
 from dataclasses import dataclass

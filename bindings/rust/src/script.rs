@@ -1,4 +1,4 @@
-//! Runs the lines of a script, and prints what `vlm play` prints: docs/SCRIPT.md of the repository has the language.
+//! Runs the lines of a script, and prints what `vlm play` prints: the manual page vlm(1) has the language.
 //! The library reads the lines and prints the answers, by proved calls; only the names of processes are kept here.
 //!
 //! ```

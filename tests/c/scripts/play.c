@@ -1,5 +1,5 @@
 /* Plays a script from standard input by the calls of the library, and prints what `vlm play` prints for it:
- * docs/SCRIPT.md says what a line does. On a line with a fault it ends with status 3. */
+ * vlm(1) says what a line does. On a line with a fault it ends with status 3. */
 #include "vlm.h"
 
 #include <stdio.h>
