@@ -1,6 +1,6 @@
 //! A core that writes a journal: an entry for each step.
 
-ghost use Rattle.std.specs.Prelude.{◌≡◌, ◌⊎◌, ◌∷◌, ◌+◌, ◌++◌, ◌-◌, ◌^◌, ◌/◌, ◌<◌, ◌≤◌, [], OnErr, OnOk, Some};
+ghost use Rattle.std.specs.Prelude.{◌≡◌, ◌⊎◌, ◌∷◌, ◌+◌, ◌++◌, ◌-◌, ◌^◌, ◌/◌, ◌<◌, ◌≤◌, ℕ, [], OnErr, OnOk, Some};
 ghost use Rattle.vlm_words.specs.declared.conditions.Cond.TheVariants.{Departed, Normal};
 ghost use Rattle.vlm_model.specs.Pending.{first_pending};
 ghost use Rattle.vlm_model.specs.Reasons.{HasDeparted};
@@ -107,15 +107,16 @@ impl JournaledCore {
 
     /// Takes the oldest AST of the process that [`JournaledCore::pending_of`] answers for a node, and writes an entry
     /// of the hub. It takes no memory.
-    pub fn deliver_ast(&mut self, node: u8, pid: u32) -> Ast
+    pub fn deliver_ast(&mut self, pid: u32) -> Ast
         requires room { 0 < self.old.room }
-        requires pending { first_pending node self.old.state.processes ≡ Some pid }
+        requires pending { (node : ℕ) × (first_pending node self.old.state.processes ≡ Some pid) }
         ensures outcome { Outcome self.old.state (Step.Take pid) self.new.state
             (Answer.Taken (Some result)) }
         ensures written { IsWritten
             (record { sender = 0; step = Step.Take pid; answer = Answer.Taken (Some result) })
             self.old self.new }
-        ensures node { pid / 65536 ≡ node }
+        ensures node { (node : ℕ) → first_pending node self.old.state.processes ≡ Some pid
+            → pid / 65536 ≡ node }
     {
         law_delivery();
         law_entry();

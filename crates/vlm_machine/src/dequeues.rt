@@ -51,7 +51,7 @@ impl Machine {
         match self.checked_dequeue(dequeue) {
             Ok(checked) => {
                 if checked.flags.has(DeqFlags::DEQALL) {
-                    self.deq_all(touched, dequeue, &checked)
+                    self.deq_all(touched, &checked)
                 } else {
                     self.deq_one(dequeue, &checked)
                 }
@@ -91,7 +91,7 @@ impl Machine {
             Err(refusal) => return Answer::Plain(refusal),
         };
         let located = self.located(lock);
-        match self.check_alone(dequeue, checked.flags, &located) {
+        match self.check_alone(checked.flags, &located) {
             Ok(()) => {
                 self.deq_change(dequeue, checked.flags, &located);
                 self.sweep(located.res);
@@ -102,18 +102,13 @@ impl Machine {
     }
 
     // With DEQALL: the check of the lock, the change, and one sweep. It never answers CANCELGRANT or SUBLOCKS.
-    fn deq_all(
-        &mut self,
-        touched: &mut Touched,
-        dequeue: &Dequeue,
-        checked: &CheckedDequeue,
-    ) -> Answer
+    fn deq_all(&mut self, touched: &mut Touched, checked: &CheckedDequeue) -> Answer
         requires between { IsBetweenSteps (plain_state self.old) }
         requires notes { HasRoomToNote touched.old self.old }
-        requires checked { IsCheckedDequeue self.old dequeue.now checked.now }
-        requires all { has_flag dequeue.now.flags deqall ≡ true }
-        ensures outcome { Outcome (plain_state self.old) (Step.Deq dequeue.now)
-            (plain_state self.new) result }
+        requires caller { IsCaller checked.now.caller self.old.records }
+        ensures outcome { (d : Dequeue) → IsCheckedDequeue self.old d checked.now
+            → has_flag d.flags deqall ≡ true
+            → Outcome (plain_state self.old) (Step.Deq d) (plain_state self.new) result }
         ensures none { touched.new.noted ≡ [] }
         ensures room { touched.new.room ≡ touched.old.room }
     {
@@ -142,17 +137,14 @@ impl Machine {
     }
 
     // The checks of one lock, in their order.
-    fn check_alone(
-        &self,
-        dequeue: &Dequeue,
-        flags: DeqFlags,
-        located: &LocatedLock,
-    ) -> Result<(), Cond>
+    fn check_alone(&self, flags: DeqFlags, located: &LocatedLock) -> Result<(), Cond>
         requires between { IsBetweenSteps (plain_state self.now) }
-        requires flags { deq_flag_bits flags ≡ dequeue.now.flags }
-        requires admitted { IsAdmittedDequeue self.now dequeue.now located.now }
-        ensures refusal { result_err result ≡ refusal_alone (plain_state self.now) dequeue.now }
-        ensures childless { OnOk result (IsChildless self.now dequeue.now located.now) }
+        requires located { IsLocated located.now self.now.records }
+        ensures refusal { (d : Dequeue) → deq_flag_bits flags ≡ d.flags
+            → IsAdmittedDequeue self.now d located.now
+            → result_err result ≡ refusal_alone (plain_state self.now) d }
+        ensures childless { (d : Dequeue) → deq_flag_bits flags ≡ d.flags
+            → OnOk result (IsChildless self.now d located.now) }
     {
         let cancels = flags.has(DeqFlags::CANCEL);
         self.check_cancel(cancels, located)?;

@@ -11,8 +11,8 @@ use Rattle.vlm_journal.proofs.journaled_core.JournaledCore.deliver_ast.Goals as 
 -- the take answers an AST
 pub ast_of-ast-requires : goal.ast_of-ast-requires
 ast_of-ast-requires c =
-    let P : Account → Type 0 = λ b. first_pending c.args.node b.state.processes ≡ Some c.args.pid in
-    let given = delivers c.law_delivery.ensures c.self.invariant (subst P (sym c.self.view_is) c.requires.pending) c.step-answer.ensures in
+    let P : Account → Type 0 = λ b. first_pending c.requires.pending.0 b.state.processes ≡ Some c.args.pid in
+    let given = delivers c.law_delivery.ensures c.self.invariant (subst P (sym c.self.view_is) c.requires.pending.1) c.step-answer.ensures in
     (given.ast, given.answered)
 
 -- the outcome leads on
@@ -23,9 +23,9 @@ invariant_of-self c =
     (inl (refl, takes c.args.pid c.ast_of-ast.result)) (rw (sym c.ast_of-ast.ensures) c.step-answer.ensures))
 
 pub returns-clause-node : goal.returns-clause-node
-returns-clause-node c =
-    let P : Account → Type 0 = λ b. first_pending c.args.node b.state.processes ≡ Some c.args.pid in
-    (delivers c.law_delivery.ensures c.self.invariant (subst P (sym c.self.view_is) c.requires.pending) c.step-answer.ensures).of_node
+returns-clause-node c node pending =
+    let P : Account → Type 0 = λ b. first_pending node b.state.processes ≡ Some c.args.pid in
+    (delivers c.law_delivery.ensures c.self.invariant (subst P (sym c.self.view_is) pending) c.step-answer.ensures).of_node
 
 -- a node that had departed stays departed
 pub returns-clause-written : goal.returns-clause-written

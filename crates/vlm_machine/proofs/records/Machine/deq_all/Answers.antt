@@ -25,14 +25,14 @@ refused_for m d c checked all =
     ∙ ap (λ (lkid : ℕ). cond (lkid == 0) None (lock_refusal s c.caller.pid lkid)) (sym checked.lkid)
 
 pub returns-in-Ok-clause-outcome : goal.returns-in-Ok-clause-outcome
-returns-in-Ok-clause-outcome c =
+returns-in-Ok-clause-outcome c d checked all =
     let s = plain_state c.args.self.now in
-    let refused = refused_for c.args.self.now c.args.dequeue.now c.args.checked.now c.requires.checked c.requires.all in
-    made_swept s (plain_state c.sweep_touched.new.self) (Deq c.args.dequeue.now) (Plain Normal) refl (c.in-Ok.ensures.refusal ∙ sym refused)
-    (c.sweep_touched.ensures.swept ∙ ap state_after_sweep (c.deq_all_change.ensures.change c.args.dequeue.now c.requires.checked c.requires.all)) refl
+    let refused = refused_for c.args.self.now d c.args.checked.now checked all in
+    made_swept s (plain_state c.sweep_touched.new.self) (Deq d) (Plain Normal) refl (c.in-Ok.ensures.refusal ∙ sym refused)
+    (c.sweep_touched.ensures.swept ∙ ap state_after_sweep (c.deq_all_change.ensures.change d checked all)) refl
 
 pub returns-in-Err-clause-outcome : goal.returns-in-Err-clause-outcome
-returns-in-Err-clause-outcome c =
+returns-in-Err-clause-outcome c d checked all =
     let s = plain_state c.args.self.now in
-    let refused = refused_for c.args.self.now c.args.dequeue.now c.args.checked.now c.requires.checked c.requires.all in
-    made_refused s (Deq c.args.dequeue.now) c.in-Err.refusal refl (refused ∙ sym c.in-Err.ensures.refusal)
+    let refused = refused_for c.args.self.now d c.args.checked.now checked all in
+    made_refused s (Deq d) c.in-Err.refusal refl (refused ∙ sym c.in-Err.ensures.refusal)
