@@ -297,7 +297,7 @@ impl Hub {
             return Ok(0);
         }
         self.journaled.reserve()?;
-        let ast = self.journaled.deliver_ast(node, pid);
+        let ast = self.journaled.deliver_ast(pid);
         node_rings.tell(Item::Ast(pid, ast));
         Ok(1)
     }

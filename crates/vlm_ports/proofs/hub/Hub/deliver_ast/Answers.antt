@@ -1,4 +1,6 @@
-use Rattle.std.proofs.Common.{arith, ◌≡◌, ◌++◌, ◌∷◌, [], List, map, refl, ap, sym, subst, ◌∙◌, set}
+use Rattle.std.proofs.Common.{arith, ◌≡◌, ◌++◌, ◌∷◌, [], ℕ, List, Option, Some, map, refl, ap, sym, subst, ◌∙◌, set}
+use Rattle.vlm_words.specs.State.{State}
+use Rattle.vlm_model.specs.Pending.{first_pending}
 use Rattle.vlm_journal.specs.declared.entries.Entry.{Entry}
 use Rattle.vlm_journal.specs.declared.entries.Item.TheVariants.{Ast as ast_item}
 use Rattle.vlm_journal.specs.declared.entries.Item.{Item}
@@ -9,6 +11,19 @@ use Rattle.vlm_ports.proofs.Lines.{delivery, delivered_follows, node_at, rings_s
 use Rattle.vlm_ports.proofs.Resting.{grew_none, grew_one}
 use Rattle.vlm_ports.proofs.Lasting.{lasts_at, lasts_then}
 use Rattle.vlm_ports.proofs.hub.Hub.deliver_ast.Goals as goal
+
+-- the process is still the first of its node with a pending AST
+still : (node pid : ℕ) (found : Option ℕ) (old new : State) → found ≡ first_pending node old.processes → found ≡ Some pid → new ≡ old
+    → first_pending node new.processes ≡ Some pid
+still node pid found old new first is same = ap (λ (s : State). first_pending node s.processes) same ∙ sym first ∙ is
+
+pub deliver_ast-ast-requires-clause-pending : goal.deliver_ast-ast-requires-clause-pending
+deliver_ast-ast-requires-clause-pending c =
+    let node = c.index_mut-node_rings.result.now.node in (
+      node,
+      still node c.in-Some.pid c.pending_of.result c.args.self.now.journaled.state c.reserve.new.self.state
+          c.pending_of.ensures c.in-Some.is c.reserve.ensures.state,
+    )
 
 pub returns-then-not-has_place-clause-rings : goal.returns-then-not-has_place-clause-rings
 returns-then-not-has_place-clause-rings c =
@@ -42,7 +57,9 @@ invariant_of-self-2-clause-linked c =
     let ls = c.args.self.now.all_node_rings.items in let js = c.args.self.now.journaled.entries in let l = c.tell.new.self in let at = c.args.at in
     let was = c.index_mut-node_rings.result.now in
     let pid = c.in-Some.pid in let ast = c.deliver_ast-ast.result in
-    let to = c.deliver_ast-ast.ensures.node ∙ node_at ls js at was was c.args.self.now.linked c.requires c.index_mut-node_rings.ensures.value refl in
+    let to = c.deliver_ast-ast.ensures.node was.node
+    (still was.node pid c.pending_of.result c.args.self.now.journaled.state c.reserve.new.self.state c.pending_of.ensures c.in-Some.is c.reserve.ensures.state)
+    ∙ node_at ls js at was was c.args.self.now.linked c.requires c.index_mut-node_rings.ensures.value refl in
     (delivered_follows ls js c.reserve.new.self.entries c.deliver_ast-ast.new.self.entries at l was pid ast
     c.args.self.now.linked c.requires c.index_mut-node_rings.ensures.value
     c.reserve.ensures.entries c.deliver_ast-ast.ensures.written.told c.deliver_ast-ast.ensures.written.entries to
@@ -59,7 +76,9 @@ returns-clause-base c =
     let ls = c.args.self.now.all_node_rings.items in let js = c.args.self.now.journaled.entries in let l = c.tell.new.self in let at = c.args.at in
     let was = c.index_mut-node_rings.result.now in
     let pid = c.in-Some.pid in let ast = c.deliver_ast-ast.result in
-    let to = c.deliver_ast-ast.ensures.node ∙ node_at ls js at was was c.args.self.now.linked c.requires c.index_mut-node_rings.ensures.value refl in (
+    let to = c.deliver_ast-ast.ensures.node was.node
+    (still was.node pid c.pending_of.result c.args.self.now.journaled.state c.reserve.new.self.state c.pending_of.ensures c.in-Some.is c.reserve.ensures.state)
+    ∙ node_at ls js at was was c.args.self.now.linked c.requires c.index_mut-node_rings.ensures.value refl in (
       c.deliver_ast-ast.ensures.written.base ∙ c.reserve.ensures.base,
       (delivered_follows ls js c.reserve.new.self.entries c.deliver_ast-ast.new.self.entries at l was pid ast
           c.args.self.now.linked c.requires c.index_mut-node_rings.ensures.value
@@ -119,7 +138,9 @@ returns-clause-known c =
 pub returns-clause-delivers : goal.returns-clause-delivers
 returns-clause-delivers c =
     let ls = c.args.self.now.all_node_rings.items in let js = c.args.self.now.journaled.entries in
-    let was = c.index_mut-node_rings.result.now in
-    let to = c.deliver_ast-ast.ensures.node ∙ node_at ls js c.args.at was was c.args.self.now.linked c.requires c.index_mut-node_rings.ensures.value refl in
-    delivers_one c.args.at js c.reserve.new.self.entries c.deliver_ast-ast.new.self.entries c.in-Some.pid
+    let was = c.index_mut-node_rings.result.now in let pid = c.in-Some.pid in
+    let to = c.deliver_ast-ast.ensures.node was.node
+    (still was.node pid c.pending_of.result c.args.self.now.journaled.state c.reserve.new.self.state c.pending_of.ensures c.in-Some.is c.reserve.ensures.state)
+    ∙ node_at ls js c.args.at was was c.args.self.now.linked c.requires c.index_mut-node_rings.ensures.value refl in
+    delivers_one c.args.at js c.reserve.new.self.entries c.deliver_ast-ast.new.self.entries pid
     c.deliver_ast-ast.result c.reserve.ensures.entries c.deliver_ast-ast.ensures.written.entries to
