@@ -1,7 +1,7 @@
-/* IDs of locks run out: a lock manager has 4,294,967,295. A handle of a client is an epoch and an
- * ID of that epoch. From 90 % on the dispatcher changes to a new lock manager at a moment without locks,
- * which no client sees. At 99 % it refuses new requests, and some time after that it ends all sessions; among replicas
- * those that have locks, since the others do not need the lock manager. */
+/* IDs of locks run out: a lock manager has 4,294,967,295. A handle of a client is an epoch and an ID of that epoch.
+ * From 90 % on the dispatcher changes to a new lock manager at a moment without locks, which no client sees. At 99 %
+ * it refuses new requests, and some time after that it ends all sessions; among replicas those that have locks, since
+ * the others do not need the lock manager. */
 #include "parts.h"
 
 #include <inttypes.h>

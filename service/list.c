@@ -9,9 +9,9 @@
  *                      a                       the last batch to be appended is in the list
  *                      r                       all that was in the list has come
  *
- * Another list: vlmd starts the program that VLM_LIST names in the place of vlm-list, with the same words. It has to
- * give each batch a revision, greater than those before it, and the same batches in the same order to all. It may tell
- * of a batch only when no fault can undo it.
+ * Another list: vlmd starts the program that VLM_LIST names in the place of vlm-list, with the words that the head
+ * of vlm-list has. It has to give each batch a revision, greater than those before it, and the same batches in the same
+ * order to all. It may tell of a batch only when no fault can undo it.
  *
  * A list in the memory of its members, as by Corosync's closed process groups, tells of a batch only when a majority
  * has said that it has it. After a change of members it waits for a quorum. A member that comes back reads the list

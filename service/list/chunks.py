@@ -2,9 +2,9 @@
 
 When the list has a MiB (the setting `chunk`), a replica packs it into one compressed key, a chunk, and deletes the
 batches. Where 16 times as much is in no chunk yet, appends wait. A chunk leaves out entries that did nothing, and
-earlier beats. It keeps every step that changed something, since IDs and serials rise with each. A replica that starts
-runs all chunks and then follows the list. A replica that was away until etcd forgot its place goes on from the chunk
-that it needs.
+most beats. It keeps every step that changed something, since IDs and serials rise with each. A replica that starts runs
+all chunks and then follows the list. A replica that was away until etcd forgot its place goes on from the chunk that it
+needs.
 
 A batch begins with 24 bytes: 8 that all have, the name of its replica, and its number. Its entries follow, each with a
 head of 8 bytes: its number, its type and the length of its payload. Of the beats of each session a chunk keeps the last

@@ -7,9 +7,9 @@ revision. Keys below the prefix:
     packed/N           chunk N of the packed batches
 
 The client library knows one member of etcd. So each call here asks one member after another, each with a time-out.
-Appends, reads and watches each have a member of their own, and leave it when it fails. A call may
-have taken effect although its answer is lost: every call below may be repeated. An append is repeated under the same
-key, unless the watch shows it.
+Appends, reads and watches each have a member of their own, and leave it when it fails. A call may have taken effect
+although its answer is lost: every call below may be repeated. An append is repeated under the same key, unless the
+watch shows it.
 
 A replica learns of batches by a watch, and of its own ones by the answer to the append too: if that has the next
 revision, no other batch can come before it.
