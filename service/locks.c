@@ -107,7 +107,7 @@ static void tell_blockers(struct reading *reading) { tell_side(reading, vlm_firs
 /* `blocked L`: the locks whose requests wait for it. */
 static void tell_blocked(struct reading *reading) { tell_side(reading, vlm_first_blocked, vlm_next_blocked); }
 
-/* `below L`: how many resources are below that of the lock. */
+/* `below L`: how many resources have that of the lock as their parent. */
 static void tell_below(struct reading *reading) {
     vlm_resource resource = {.size = sizeof resource};
     uint64_t count = 0;

@@ -22,7 +22,7 @@
 #define LKI$_PID 16       /* longword: the process of the operating system that has the lock */
 #define LKI$_REMSYSTEM 17 /* up to 15 bytes: the name of this machine */
 #define LKI$_RESNAM 18    /* up to 31 bytes: the name of the resource */
-#define LKI$_RSBREFCNT 19 /* longword: how many resources are below the resource */
+#define LKI$_RSBREFCNT 19 /* longword: how many resources have it as their parent */
 #define LKI$_STATE 20     /* three bytes: struct lkistate */
 #define LKI$_SYSTEM 21    /* up to 15 bytes: the name of this machine */
 #define LKI$_VALBLK 22    /* 16 bytes: the value block of the resource */
