@@ -22,9 +22,9 @@
  * while the mutex does not change hands, before it sleeps. */
 enum { PAUSES = 2000, MOST_AT_ONCE = 512, YIELDS = 8 };
 
-/* A thread that looks at a condition pauses this often between two looks. One that has told such a thread of its grant
- * pauses this often when it has let the mutex go, so that the other one takes it first. Else the two often change
- * places at each pair of calls, and the memory of the lock moves from one processor to the other each time. */
+/* A thread pauses LOOK_PAUSES times between two looks at a condition. One that has told such a thread of its grant
+ * pauses TOLD_PAUSES times after it has let the mutex go, so that the other one takes it first. Otherwise the two often
+ * take turns at each pair of calls, and the memory of the lock moves from one processor to the other each time. */
 enum { LOOK_PAUSES = 4, TOLD_PAUSES = 50 };
 
 static void pause_often(int times) {
@@ -183,7 +183,8 @@ void vlmt_look(vlm_threads *layer, struct condition *condition) {
     condition->lookers--;
 }
 
-/* The call of the system comes when the mutex is free, so that the thread does not wake to find it taken. */
+/* The call of the system comes when the mutex is free, so that the thread does not wake to find it taken. Of
+ * several wakes only the last one waits for that. */
 void vlmt_wake(vlm_threads *layer, struct condition *condition) {
     if (!condition->sleepers && !condition->lookers)
         return;

@@ -7,7 +7,7 @@
  *
  * vlm_threads.c            opening, closing, counters
  * vlm_threads_watch.c      searches, the thread that watches, and the hooks
- * vlm_threads_cycles.c    the victim of a search, and its cycle
+ * vlm_threads_cycles.c     the victim of a search, and its cycle
  * vlm_threads_processes.c  declare, rundown, leave, the ends of threads
  * vlm_threads_requests.c   enq, convert, deq, and the wait for a grant
  * vlm_threads_delivery.c   calls of routines
@@ -46,11 +46,11 @@ struct condition {
 #endif
 };
 
-/* Other threads for which something has come since the mutex was taken. */
+/* Whom the owner of the mutex has told since it took the mutex that something has come. */
 struct told {
-    bool any;
-    bool looker;               /* one that looks */
-    struct condition *sleeper; /* one that sleeps on it is to be woken, once the mutex is let go; or null */
+    bool any;                  /* somebody */
+    bool looker;               /* a thread that looks */
+    struct condition *sleeper; /* where a thread sleeps that is to be woken once the mutex is let go, or null */
 };
 
 /* The layer's mutex. Threads that want it look at the first two words, so these are on a cache line of their own. */
