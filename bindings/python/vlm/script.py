@@ -1,5 +1,5 @@
-"""Reads and runs the lines of a script, and prints what `vlm play` prints: docs/SCRIPT.md of the repository has the
-language. The library's proved `vlm_read_line` reads a line, and its `vlm_print` calls print; nothing else is proved.
+"""Reads and runs the lines of a script, and prints what `vlm play` prints: the manual page vlm(1) has the language.
+The library's proved `vlm_read_line` reads a line, and its `vlm_print` calls print; nothing else is proved.
 
     with LockManager() as manager:
         for text in play(manager, script):
