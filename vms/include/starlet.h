@@ -48,7 +48,7 @@ typedef unsigned long long VMS$PARAMETER;
  *
  * SS$_NORMAL: accepted. SS$_SYNCH: granted at once, with LCK$M_SYNCSTS; the event flag is not set, and no AST comes. A
  * grant at once has written the status block when the call returns. With SS$_NORMAL it has also set the event flag, and
- * its AST has run where ASTs are delivered.
+ * its AST has run, unless ASTs are turned off or an AST routine was running.
  * Refused: SS$_ACCVIO (lksb or resnam is null), SS$_BADPARAM, SS$_CVTUNGRANT, SS$_EXDEPTH, SS$_EXENQLM (the quota; or
  * 255 requests are under way), SS$_ILLEFC, SS$_INSFMEM, SS$_IVBUFLEN, SS$_IVLOCKID, SS$_NOLOCKID, SS$_NOSYSLCK,
  * SS$_NOTQUEUED, SS$_PARNOTGRANT, SS$_UNASEFC, SS$_UNREACHABLE, SS$_NODELEAVE, SS$_UNSUPPORTED. */
