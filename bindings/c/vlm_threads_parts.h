@@ -16,7 +16,9 @@
  * vlm_threads_lock.c       the mutex, and how threads sleep without it
  * vlm_threads_print.c      counters, waits and deadlocks as text
  *
- * Every function that is declared here wants the mutex held, except vlmt_lock.
+ * The functions that are declared here want the mutex held. Exceptions are vlmt_lock, vlmt_processors, vlmt_looks,
+ * those that make or free a mutex, a condition or a table, and those that threads begin with (vlmt_dispatch,
+ * vlmt_watch).
  */
 #ifndef VLM_THREADS_PARTS_H
 #define VLM_THREADS_PARTS_H
