@@ -556,16 +556,19 @@ static void test_losses(void) {
     start_daemon();
 }
 
+static atomic_bool is_waiting;
+
 static void *wait_shortly(void *argument) {
     struct waiter *waiter = argument;
     vlm_threads_request request = wanted(waiter->pid, VLM_EX, 0);
     request.milliseconds = 200;
+    is_waiting = true;
     waiter->answer = enq(waiter->client, &request, waiter->name);
     pthread_testcancel();
     return NULL;
 }
 
-/* A thread that is cancelled during a call ends after it. */
+/* A thread that is cancelled during a call ends after it. On a busy machine a thread begins late. */
 static void test_cancelled(void) {
     vlm_client *client = opened((vlm_client_options){0});
     struct waiter waiter = {client, declared(client), 0, "A"};
@@ -575,6 +578,8 @@ static void test_cancelled(void) {
     pthread_t thread;
     CHECK(enq(client, &held, "A") == VLM_NORMAL);
     pthread_create(&thread, NULL, wait_shortly, &waiter);
+    while (!is_waiting)
+        usleep(1000);
     usleep(50000);
     pthread_cancel(thread);
     pthread_join(thread, &end);
