@@ -1,7 +1,9 @@
 #!/usr/bin/env python3
 """Clients that hold locks keep their leases alive, and others wait for the same locks, while something hangs. Fails if
 one of the others is granted a lock while its holder's lease goes on, by the lease rule: it lasts from before the holder
-sent the last line that was answered. For long, with VLM_PREFIX=PREFIX: ./leases.py --runs 15"""
+sent the last line that was answered. Leases that end although nothing of theirs hung, or that do not end, fail only if
+each of a few tries has some, since other programs may keep the machine busy in one. For long, with VLM_PREFIX=PREFIX:
+./leases.py --runs 15"""
 
 import argparse
 import signal
@@ -14,7 +16,7 @@ from local import Local
 from lock_client import Client, SessionEnded
 
 MEMBERS, REPLICAS = 3, 3
-LEASE = 5
+LEASE, TRIES = 5, 3
 # How long all goes well before something hangs, and after it. Leases that end have ended by then.
 BEFORE, AFTER = 2.0, LEASE + 3.0
 # What hangs, and for how many seconds. A client that hangs for longer than its lease loses it.
@@ -79,11 +81,11 @@ def hang(local, fault, pairs):
             local.signal(name, signal.SIGCONT)
 
 
-def run(local, fault, pairs, number):
-    """Pairs under a fault. Returns what is wrong."""
+def run(local, fault, pairs, number, attempt):
+    """Pairs under a fault. Returns which pairs held a lock both, and what else was not as expected."""
     first = [number + at for at in range(pairs)]
     # (the sessions of the fault before have not ended yet: names of their own, or these holders would wait for them)
-    names = [f"{fault.replace(' ', '-')}{number}-{at}" for at in first]
+    names = [f"{fault.replace(' ', '-')}{number}-{attempt}-{at}" for at in first]
     made = [Pair(local.places[at % REPLICAS:] + local.places[:at % REPLICAS], name) for at, name in zip(first, names)]
     until = time.monotonic() + BEFORE + FAULTS[fault] + AFTER
     threads = [threading.Thread(target=call, args=(until,)) for pair in made for call in (pair.hold, pair.wait)]
@@ -97,11 +99,19 @@ def run(local, fault, pairs, number):
     overlaps = [pair.overlap for pair in made if pair.overlap]
     print(f"{fault}: {sum(pair.ended is not None for pair in made)} of {pairs} holders' sessions ended, {granted} of "
           f"the others were granted, {len(overlaps)} overlaps", flush=True)
-    yield from (f"both held a lock for {seconds:.1f} s" for seconds in overlaps)
     # Those that go on lose nothing, and those that hang for longer than their leases lose their locks.
     expected = pairs if fault == "clients" else 0
-    if granted != expected:
-        yield f"{granted} were granted, not {expected}"
+    return ([f"both held a lock for {seconds:.1f} s" for seconds in overlaps],
+            [] if granted == expected else [f"{granted} were granted, not {expected}"])
+
+
+def wrong_of(local, fault, pairs, number):
+    """What is wrong under a fault, in the best of a few tries."""
+    for attempt in range(TRIES):
+        overlaps, unexpected = run(local, fault, pairs, number, attempt)
+        if overlaps or not unexpected:
+            return overlaps
+    return unexpected
 
 
 def main():
@@ -116,8 +126,8 @@ def main():
         local.wait()
         for number in range(words.runs):
             for fault in words.fault or FAULTS:
-                wrong += [f"{fault}: {it}" for it in run(local, fault, words.pairs, number)]
-        print("\n".join([*wrong, local.logs(), "FAILED"]) if wrong else "ok")
+                wrong += [f"{fault}: {it}" for it in wrong_of(local, fault, words.pairs, number)]
+        print("\n".join([local.logs(), *wrong, "FAILED"]) if wrong else "ok")
     return 1 if wrong else 0
 
 
