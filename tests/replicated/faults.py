@@ -1,6 +1,6 @@
 #!/usr/bin/env python3
 """Kills and stops replicas, members of etcd and clients, again and again, while clients count under locks, and then
-checks what they were told, and what is left: the replicas are equal, no update is lost, each line got its own answer,
+checks their answers, and what is left: the replicas are equal, no update is lost, each line got its own answer,
 fencing tokens rose, and no two clients believed in conflicting locks at one time. The gate runs it for two minutes,
 with 61 clients. For longer, with VLM_PREFIX=PREFIX for what `./vlm install PREFIX` left:
 ./faults.py --seconds 3600 --seed N"""
