@@ -52,8 +52,22 @@ impl HashKeys {
         ensures { result ≡ hash_of self.now words.now }
     {
         let mut state = self.words;
-        for word in words {
-            state.compress(*word);
+        match *words {
+            // The keys of names with up to 16 bytes, without a loop's counting.
+            [first, second] => {
+                state.compress(first);
+                state.compress(second);
+            }
+            [first, second, third] => {
+                state.compress(first);
+                state.compress(second);
+                state.compress(third);
+            }
+            _ => {
+                for word in words {
+                    state.compress(*word);
+                }
+            }
         }
         state.finish()
     }

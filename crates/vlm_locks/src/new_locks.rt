@@ -58,29 +58,43 @@ pub struct NewLock {
     pub at_once: bool,
 }
 
-// The state in which a new lock enters, and its queue: granted if it is granted at once, else waiting.
-fn entered_state(at_once: bool, row: &StoredState) -> (StoredState, Queue)
-    ensures row { result.0 ≡ granted_if_at_once at_once row.now }
-    ensures queue { result.1 ≡ entered_queue at_once }
+// The state of a new lock before a grant: it holds nothing.
+fn wanting_state(new_lock: &NewLock) -> StoredState
+    ensures { result ≡ new_row new_lock.now }
 {
-    if at_once {
-        (row.granted(), Queue::Granted)
+    StoredState::of(&LockState {
+        lkid: new_lock.lkid,
+        pid: new_lock.pid,
+        parent: new_lock.parent_lkid,
+        held: None,
+        want: Some(new_lock.asked),
+        armed: false,
+    })
+}
+
+// The state in which a new lock enters, and its queue: granted if it is granted at once, else waiting.
+fn entered_state(new_lock: &NewLock) -> (StoredState, Queue)
+    ensures row { result.0 ≡ granted_if_at_once new_lock.now.at_once (new_row new_lock.now) }
+    ensures queue { result.1 ≡ entered_queue new_lock.now.at_once }
+{
+    let state = wanting_state(new_lock);
+    if new_lock.at_once {
+        (state.granted(), Queue::Granted)
     } else {
-        (*row, Queue::Waiting)
+        (state, Queue::Waiting)
     }
 }
 
 // Adds a new lock at the end of its queue.
-fn enter_at(store: &mut Store, new_lock: &NewLock, row: &StoredState, res: ResAt)
+fn enter_at(store: &mut Store, new_lock: &NewLock, res: ResAt)
     requires may_enter { MayEnter new_lock.now store.old }
-    requires row { row.now ≡ new_row new_lock.now }
     requires found { FindsResource store.old new_lock.now.site.key (Some res) }
     requires room { HasRoomForLock new_lock.now.lkid store.old }
     ensures entered { IsEntered new_lock.now res store.old store.new }
     ensures due { IsDueMore (granted_if_at_once new_lock.now.at_once (new_row new_lock.now))
         store.old store.new }
 {
-    let (state, queue) = entered_state(new_lock.at_once, row);
+    let (state, queue) = entered_state(new_lock);
     let place = Place::Queued(res, queue);
     store.add_lock_reserved(&state, new_lock.owner, new_lock.parent, place);
 }
@@ -105,8 +119,7 @@ fn resource_or_new(store: &mut Store, new_lock: &NewLock) -> ResAt
 
 // Accepts the request of a lock that has entered, and ends it if it is granted at once. Such a grant never writes the
 // value block.
-fn accept_entered(store: &mut Store, new_lock: &NewLock, row: &StoredState, res: ResAt)
-    requires row { row.now ≡ new_row new_lock.now }
+fn accept_entered(store: &mut Store, new_lock: &NewLock, res: ResAt)
     requires owner { IsProcess new_lock.now.owner new_lock.now.pid store.old }
     requires there { HasResource res store.old }
     requires owed { row_due (new_row new_lock.now) ≤ due_of new_lock.now.pid store.old }
@@ -121,9 +134,11 @@ fn accept_entered(store: &mut Store, new_lock: &NewLock, row: &StoredState, res:
     } else if new_lock.asked.flags.has(EnqFlags::VALBLK) {
         accept(store, new_lock.owner, new_lock.asked.block, new_lock.lkid);
         let mut value_block = store.resource_record(res).value_block;
-        end_by_grant(&mut value_block, store, new_lock.owner, row, true);
+        let row = wanting_state(new_lock);
+        end_by_grant(&mut value_block, store, new_lock.owner, &row, true);
     } else {
-        grant_without_value_block(store, new_lock.owner, row, &new_lock.asked);
+        let row = wanting_state(new_lock);
+        grant_without_value_block(store, new_lock.owner, &row, &new_lock.asked);
     }
 }
 
@@ -164,16 +179,8 @@ pub fn enter(store: &mut Store, new_lock: &NewLock) -> Result<ResAt, AllocError>
     ensures err { OnErr result (IsUnchanged store.old store.new) }
 {
     make_ready(store, new_lock)?;
-    let row = StoredState::of(&LockState {
-        lkid: new_lock.lkid,
-        pid: new_lock.pid,
-        parent: new_lock.parent_lkid,
-        held: None,
-        want: Some(new_lock.asked),
-        armed: false,
-    });
     let res = resource_or_new(store, new_lock);
-    enter_at(store, new_lock, &row, res);
-    accept_entered(store, new_lock, &row, res);
+    enter_at(store, new_lock, res);
+    accept_entered(store, new_lock, res);
     Ok(res)
 }

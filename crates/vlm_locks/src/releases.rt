@@ -105,10 +105,9 @@ fn release_blocking_ast(store: &mut Store, located: &LocatedLock, gone: bool)
         store.old store.new }
     ensures only_notices { SameButNotices store.old store.new }
 {
-    if !gone {
-        return;
+    if gone && located.row.is_armed() {
+        forgive(store, located.owner, 1);
     }
-    forgive(store, located.owner, usize::from(located.row.is_armed()));
 }
 
 fn goes(stays: bool, queue: Queue) -> bool

@@ -88,7 +88,7 @@ fn serve_queues(value_block: &mut ValueBlock, store: &mut Store, res: ResAt)
     }
 }
 
-fn nothing_queued(store: &Store, res: ResAt) -> bool
+pub(crate) fn nothing_queued(store: &Store, res: ResAt) -> bool
     requires { HasResource res store.now }
     ensures nothing { IfSome (resource_at res store.now.resources) (λ r. result
         ≡ nothing_queued (plain_resource r)) }
@@ -120,11 +120,7 @@ pub(crate) fn serve(store: &mut Store, res: ResAt)
     ensures served { IsServed res store.old store.new }
     ensures there { HasResource res store.new }
     ensures paid { IsPaid store.new }
-    ensures sound { IsSound store.old }
 {
-    if nothing_queued(store, res) {
-        return;
-    }
     grant_queued(store, res);
     warn(store, res);
 }

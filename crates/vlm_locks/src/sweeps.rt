@@ -9,12 +9,13 @@ ghost use Rattle.vlm_locks.specs.Rest.{IsAtRest};
 ghost use Rattle.vlm_locks.specs.Sweeping.{AreStableBut, IsSwept, Parted, StandInOrder, HasSwept};
 ghost use Rattle.vlm_locks.specs.Touched.{touched_handles};
 
-use crate::services::serve;
+use crate::services::{nothing_queued, serve};
 use crate::touched::Note;
 use vlm_model::laws::law_a_sweep_touches_only_what_is_not_stable;
 use vlm_queue::is_idle;
 use vlm_store::{ResAt, Store};
 
+// Most sweeps find nothing queued: then there is nothing to grant and nobody to warn.
 fn sweep_one(store: &mut Store, res: ResAt)
     requires there { HasResource res store.old }
     requires paid { IsPaid store.old }
@@ -23,6 +24,12 @@ fn sweep_one(store: &mut Store, res: ResAt)
     ensures paid { IsPaid store.new }
     ensures sound { IsSound store.new }
 {
+    if nothing_queued(store, res) {
+        if is_idle(store, res) {
+            store.remove_resource(res);
+        }
+        return;
+    }
     serve(store, res);
     if is_idle(store, res) {
         store.remove_resource(res);

@@ -22,10 +22,10 @@ accept-requires-then-has c = process_there c.args.store.now c.args.new_lock.now.
 pub end_by_grant-requires-clause-process : goal.end_by_grant-requires-clause-process
 end_by_grant-requires-clause-process c =
     let new_lock = c.args.new_lock.now in
-    rw c.requires.row (process_still c.args.store.now c.accept-then-has.new.store new_lock.owner new_lock.pid
+    rw c.wanting_state-row.ensures (process_still c.args.store.now c.accept-then-has.new.store new_lock.owner new_lock.pid
     c.accept-then-has.ensures.only_notices c.requires.owner)
 
 pub end_by_grant-requires-clause-owed : goal.end_by_grant-requires-clause-owed
 end_by_grant-requires-clause-owed c =
     let new_lock = c.args.new_lock.now in
-    rw c.requires.row (subst (λ (due : ℕ). row_due (new_row new_lock) ≤ due) (sym (c.accept-then-has.ensures.dues new_lock.pid)) c.requires.owed)
+    rw c.wanting_state-row.ensures (subst (λ (due : ℕ). row_due (new_row new_lock) ≤ due) (sym (c.accept-then-has.ensures.dues new_lock.pid)) c.requires.owed)
