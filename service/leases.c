@@ -1,9 +1,10 @@
 /* What only replicas call: leases of sessions, and what else an entry of the list does.
  *
- * A beat is an entry by which the leases of sessions last their whole time again. A client counts its lease from before
- * it asked for a beat that was answered. A replica counts from when the last beat came by, which is later. The end of a
- * session names that beat, and does nothing if another one came by first. So no session ends while its client counts on
- * it. This rests on clocks that run equally fast and on the order of the list, and on nothing else.
+ * A beat is an entry by which the leases of sessions last their whole time again; `open` and `resume` are beats of
+ * their own session. A client counts its lease from before it asked for a beat that was answered. A replica counts from
+ * when the last beat came by, which is later. The end of a session names that beat, and does nothing if another one
+ * came by first. So no session ends while its client counts on it. This rests on clocks that run equally fast and on
+ * the order of the list, and on nothing else.
  *
  * Take an end that took effect, and the last beat B of the session before it. The end names B, since it would do
  * nothing otherwise. The replica that sent it had run B and then waited for the whole lease. A client that asks for a
