@@ -38,11 +38,11 @@ def short_readme(_program):
 
 
 def crate_table(_program):
-    """docs/ARCHITECTURE.md has one row for each crate of crates.txt, in order."""
+    """docs/ARCHITECTURE.md lists each crate of crates.txt, in order."""
     wanted = re.findall(r"^(\w+)(?: staticlib)?:", text_of("crates.txt"), re.M)
-    found = re.findall(r"^\| `(vlm\w*)` \|", text_of("docs/ARCHITECTURE.md"), re.M)
+    found = re.findall(r"^- `(vlm\w*)`: ", text_of("docs/ARCHITECTURE.md"), re.M)
     if len(wanted) < 20 or found != wanted:
-        yield f"the rows are {found}"
+        yield f"the crates are {found}"
 
 
 def sources(pattern="src"):
@@ -328,7 +328,7 @@ def numbers(_program):
 
 # Where the version stands beside the file VERSION, and a pattern of it there.
 VERSIONS = (("CHANGELOG.md", r"^## ([\d.]+)"), ("README.md", r"version ([\d.]+);"),
-            ("docs/BUILDING.md", r"`lib/libvlm\.so\.([\d.]+)` \| the shared library, of version \1;"),
+            ("docs/BUILDING.md", r"`lib/libvlm\.so\.([\d.]+)`: the shared library, of version \1;"),
             ("bindings/rust/Cargo.toml", r'^version = "([^"]+)"'),
             ("bindings/rust/Cargo.toml", r'path = "vlm-sys", version = "([^"]+)"'),
             ("bindings/rust/vlm-sys/Cargo.toml", r'^version = "([^"]+)"'),
@@ -422,8 +422,8 @@ def functions(_program):
 
 
 def proof_files(_program):
-    """What is wrong with the table of docs/LAWS.md: it has each law with the files that its answer cites."""
-    found = dict(re.findall(r"^\| `(law_\w+)` \| (.*) \|$", text_of("docs/LAWS.md"), re.M))
+    """What is wrong with the list of docs/LAWS.md: it has each law with the files that its answer cites."""
+    found = dict(re.findall(r"^- `(law_\w+)`: (.*)$", text_of("docs/LAWS.md"), re.M))
     for file in sorted((TOP / "crates").glob("*/proofs/**/law_*/Answers.antt")):
         crate, law = file.relative_to(TOP / "crates").parts[0], file.parent.name
         folder = "" if crate == "vlm_model" else f"{crate}/proofs/"
