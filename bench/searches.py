@@ -1,4 +1,4 @@
-"""Scripts in which many requests wait, for what a search costs. bench/run prints it, and tests/searches.py holds it."""
+"""Scripts in which many requests wait, for what a search costs. bench/run prints it, tests/search_costs.py holds it."""
 
 SEARCH = "search node=1"
 
