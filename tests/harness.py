@@ -17,6 +17,8 @@ STORED = TOP / "crates" / "vlm"
 SECONDS = 20
 # The longest script, in bytes.
 LONGEST = 16_777_216
+# How much a failure shows of what a program said: its beginning, which often has the reason, and its end.
+FIRST_SHOWN, LAST_SHOWN = 300, 600
 
 
 class Test(NamedTuple):
@@ -51,6 +53,12 @@ def difference(found, wanted):
     """What is wrong with a run that was to end so."""
     if found != wanted:
         yield f"{found} and not {wanted}"
+
+
+def ends_of(text):
+    """A text, or the beginning and the end of a long one."""
+    is_short = len(text) <= FIRST_SHOWN + LAST_SHOWN
+    return text if is_short else f"{text[:FIRST_SHOWN]} ... {text[-LAST_SHOWN:]}"
 
 
 def result_of(test, program):

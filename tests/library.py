@@ -16,7 +16,7 @@ from functools import partial
 from pathlib import Path
 
 import chosen_names
-from harness import PLAY, ROOM, Ended, Test, TOP, difference, kit_folder, run
+from harness import PLAY, ROOM, Ended, Test, TOP, difference, ends_of, kit_folder, run
 
 # The longest run of a test program, and of an installation, which may prove the library first.
 SECONDS, INSTALL_SECONDS = 120, 3_600
@@ -79,7 +79,7 @@ def ran(*words, seconds=SECONDS, **how):
     """What is wrong with a command that was to end with 0."""
     ended = subprocess.run([str(word) for word in words], capture_output=True, text=True, timeout=seconds, **how)
     if ended.returncode:
-        yield f"{shlex.join(map(str, words))}: {ended.returncode}: {(ended.stdout + ended.stderr)[-600:]}"
+        yield f"{shlex.join(map(str, words))}: {ended.returncode}: {ends_of(ended.stdout + ended.stderr)}"
 
 
 @functools.lru_cache(maxsize=None)
