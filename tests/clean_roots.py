@@ -9,7 +9,7 @@ import time
 import urllib.request
 from pathlib import Path
 
-from harness import Once, PLAIN_ROOM
+from harness import Once, PLAIN_ROOM, ends_of
 
 MIRROR = "http://deb.debian.org/debian"
 # The longest command in a root: it may fetch a compiler.
@@ -91,7 +91,7 @@ class Root:
     def need(self, script, user="root"):
         ended = self.run(script, user)
         if ended.returncode:
-            raise Failed(f"{script}: {ended.returncode}: {ended.stdout[-600:]}")
+            raise Failed(f"{script}: {ended.returncode}: {ends_of(ended.stdout)}")
         return ended.stdout
 
     def put(self, *files, place):

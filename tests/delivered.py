@@ -18,7 +18,7 @@ import clean_roots
 import docs
 import library
 from clean_roots import Failed, Machine, Root
-from harness import PLAY, ROOM, TOP, Test, difference
+from harness import PLAY, ROOM, TOP, Test, difference, ends_of
 
 VERSION = (TOP / "VERSION").read_text().strip()
 FITS = VERSION.rpartition(".")[0]
@@ -51,7 +51,7 @@ def made(tree, program, version):
     ended = subprocess.run([str(it) for it in words], cwd=tree / "tools", capture_output=True, text=True,
                            timeout=PACKAGE_SECONDS, env={**os.environ, "SOURCE_DATE_EPOCH": time.strip() or "1"})
     if ended.returncode:
-        raise Failed(ended.stderr[-600:])
+        raise Failed(ends_of(ended.stderr))
     return folder
 
 
@@ -270,7 +270,7 @@ def uses_cmake(root):
              "cmake --build built && built/shared | cmp - project/two.out && built/static | cmp - project/two.out"
     ended = root.run(script, "user")
     if ended.returncode:
-        yield ended.stdout[-600:]
+        yield ends_of(ended.stdout)
 
 
 CARGO = """[package]
@@ -291,7 +291,7 @@ def uses_cargo(root):
     script = "for it in /packages/*.crate; do tar xzf $it; done; cd crate && cargo run --offline --quiet"
     ended = root.run(script, "user")
     if ended.returncode or "400 updates, the last version is 400, 0 updates were lost\n" not in ended.stdout:
-        yield ended.stdout[-600:]
+        yield ends_of(ended.stdout)
 
 
 def goes_on(root):
@@ -300,7 +300,7 @@ def goes_on(root):
     script = "./two | cmp - /usr/share/doc/libvlm-doc/examples/c/two.out && ldd ./two && ls -l /usr/lib/*/libvlm.so.*"
     ended = root.run(script, "user")
     if ended.returncode or f"libvlm.so.{FITS} => " not in ended.stdout or f"libvlm.so.{NEXT}\n" not in ended.stdout:
-        yield ended.stdout[-600:]
+        yield ends_of(ended.stdout)
 
 
 # Steps of the user of pip and the archive.

@@ -631,7 +631,7 @@ def python_tests(package, env):
     ended = subprocess.run([sys.executable, "-m", "unittest", "discover", "-v", "-s", "tests"], cwd=package, env=env,
                            capture_output=True, text=True, timeout=600)
     if ended.returncode:
-        yield f"unittest: {ended.returncode}: {ended.stderr[-600:]}"
+        yield f"unittest: {ended.returncode}: {ends_of(ended.stderr)}"
     there = {"vlmd": has_uv(), "Graphviz": shutil.which("dot"),
              "browser": shutil.which("chromium") and shutil.which("chromedriver")}
     skipped = set(re.findall(r"\bskipped ['\"](.*)['\"]$", ended.stderr, re.M))

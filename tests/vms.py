@@ -21,7 +21,7 @@ import service_tls
 import tls_keys
 import vms_scripts
 from daemons import PLAIN, SECONDS, Daemon
-from harness import PLAIN_ROOM, ROOM, TOP, Once, Test, difference
+from harness import PLAIN_ROOM, ROOM, TOP, Once, Test, difference, ends_of
 from proxies import Proxy, addresses
 
 HERE = Path(__file__).resolve().parent / "vms"
@@ -217,7 +217,7 @@ def ended(run):
     """What a program printed that ends well."""
     printed, told = run.communicate(timeout=SECONDS)
     if run.returncode or "Sanitizer" in told:
-        raise RuntimeError(f"{run.args}: {run.returncode}: {told[-600:]}")
+        raise RuntimeError(f"{run.args}: {run.returncode}: {ends_of(told)}")
     return printed
 
 

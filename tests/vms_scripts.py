@@ -10,7 +10,7 @@ import time
 from functools import partial
 
 from daemons import SECONDS, Daemon
-from harness import PLAY, Test, difference
+from harness import PLAY, Test, difference, ends_of
 
 # What the scripts that are made use, at least.
 FLAGS = ("valblk", "noqueue", "syncsts", "system", "expedite", "quecvt", "nodlckwt", "nodlckblk", "wide", "deqall",
@@ -65,7 +65,7 @@ class Process:
             self.run.kill()
         _, told = self.run.communicate(timeout=SECONDS)
         if self.run.returncode not in (0, -signal.SIGKILL) or told:
-            yield f"a player ended with {self.run.returncode}: {told[-600:]}"
+            yield f"a player ended with {self.run.returncode}: {ends_of(told)}"
 
 
 class Scene:
