@@ -1,4 +1,4 @@
-"""Scripts in which many requests wait, for what a search costs. bench/run prints it, tests/search_costs.py holds it."""
+"""Scripts in which many requests wait. bench/run prints what a search costs then, tests/search_costs.py bounds it."""
 
 SEARCH = "search node=1"
 
