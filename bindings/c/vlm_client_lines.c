@@ -22,14 +22,15 @@ uint32_t vlmc_status(const char *answer, uint64_t *handle) {
     if (strncmp(word, "process ", 8) == 0)
         return VLM_NORMAL;
     size_t len = strcspn(word, " ");
-    for (uint32_t status = VLM_NORMAL; status <= VLM_WIDENOTVALID; status++) {
+    for (uint32_t status = VLM_NORMAL;; status++) {
         const char *name = vlm_condition_name(status);
+        if (name == NULL)
+            return VLM_BADPARAM;
         if (strncmp(name, "SS$_", 4) == 0)
             name += 4;
         if (strlen(name) == len && strncmp(name, word, len) == 0)
             return status;
     }
-    return VLM_BADPARAM;
 }
 
 int vlmc_write_hex(char *text, const uint8_t *bytes, size_t len) {
