@@ -1,6 +1,6 @@
 //! A map from numbers to handles.
 
-ghost use Rattle.std.specs.Prelude.{◌≡◌, ◌<◌, ◌≤◌, ◌+◌, ℕ, None, Some, is_none, IsOk, OnOk, nat_eq};
+ghost use Rattle.std.specs.Prelude.{◌≡◌, ◌<◌, ◌≤◌, ◌+◌, ℕ, None, Some, is_none, IfOk, IsOk, OnErr, OnOk, nat_eq};
 ghost use Rattle.std.specs.Bool.{OnFalse, OnTrue};
 ghost use Rattle.indexmap.specs.IndexMap.{IsEmpty, IsUnchanged, get, spare};
 ghost use Rattle.vlm_collections.specs.NumberMaps.{WritesOne};
@@ -116,21 +116,24 @@ impl<Kind> NumberMap<Kind> {
         self.numbered.reserve(additional)
     }
 
-    /// Gives a number this handle, if it has none. Whether it had none.
+    /// Gives a number this handle, if it has none. Whether it had none. If memory is refused, nothing is changed.
     #[inline(always)]
-    pub fn insert(&mut self, number: u32, at: u32) -> bool
-        requires { 0 < spare self.old }
-        ensures is_new { result ≡ is_none (get nat_eq self.old number) }
-        ensures writes { OnTrue result (WritesOne number (Some at) self.old self.new) }
-        ensures same { OnFalse result (IsUnchanged self.old self.new) }
+    pub fn insert(&mut self, number: u32, at: u32) -> Result<bool, AllocError>
+        ensures is_new { IfOk result (λ new. new ≡ is_none (get nat_eq self.old number)) }
+        ensures writes { IfOk result (λ new. OnTrue new (WritesOne number (Some at) self.old self.new)) }
+        ensures same { IfOk result (λ new. OnFalse new (IsUnchanged self.old self.new)) }
         ensures taken { spare self.old ≤ spare self.new + 1 }
+        ensures succeeds { 0 < spare self.old → IsOk result }
+        ensures refused { OnErr result (IsUnchanged self.old self.new) }
+        ensures kept { OnErr result (spare self.old ≤ spare self.new) }
     {
         let numbered = Numbered {
             number,
             at,
             kind: PhantomData,
         };
-        self.numbered.insert(numbered).unwrap()
+        let is_new = self.numbered.insert(numbered)?;
+        Ok(is_new)
     }
 
     #[inline(always)]

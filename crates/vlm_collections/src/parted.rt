@@ -1,6 +1,6 @@
 //! An index of handles by number, in parts.
 
-ghost use Rattle.std.specs.Prelude.{◌≡◌, ◌<◌, ℕ, None, Some, is_none, IsOk, OnOk};
+ghost use Rattle.std.specs.Prelude.{◌≡◌, ◌<◌, ℕ, None, Some, is_none, IfOk, IsOk, OnErr, OnOk};
 ghost use Rattle.std.specs.Bool.{OnFalse, OnTrue};
 ghost use Rattle.indexmap.specs.IndexMap.{IsEmpty};
 ghost use Rattle.vlm_collections.specs.Parts.{FindsSame, KeepsSpares, UsesOneSpare, Writes, handle_in, spare_for, spares_of};
@@ -94,14 +94,16 @@ impl<Kind> PartedIndex<Kind> {
         }
     }
 
-    /// Gives a number this handle, if it has none. Whether it had none.
+    /// Gives a number this handle, if it has none. Whether it had none. If memory is refused, nothing is changed.
     #[inline(always)]
-    pub fn insert(&mut self, number: u32, at: At<Kind>) -> bool
-        requires room { 0 < spare_for (spares_of self.old) number }
-        ensures is_new { result ≡ is_none (handle_in self.old number) }
-        ensures writes { OnTrue result (Writes number (Some at) self.old self.new) }
-        ensures same { OnFalse result (FindsSame self.old self.new) }
+    pub fn insert(&mut self, number: u32, at: At<Kind>) -> Result<bool, AllocError>
+        ensures is_new { IfOk result (λ new. new ≡ is_none (handle_in self.old number)) }
+        ensures writes { IfOk result (λ new. OnTrue new (Writes number (Some at) self.old self.new)) }
+        ensures same { IfOk result (λ new. OnFalse new (FindsSame self.old self.new)) }
         ensures taken { UsesOneSpare (spares_of self.old) (spares_of self.new) }
+        ensures succeeds { 0 < spare_for (spares_of self.old) number → IsOk result }
+        ensures refused { OnErr result (FindsSame self.old self.new) }
+        ensures kept { OnErr result (KeepsSpares (spares_of self.old) (spares_of self.new)) }
     {
         self.parts[number as usize / RUN % PARTS].insert(number, at.raw())
     }

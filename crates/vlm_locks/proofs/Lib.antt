@@ -1,3 +1,4 @@
+pub mod Forgiven
 pub mod FoundByHandle
 pub mod MovedToGranted
 pub mod GrantsKeepResources
@@ -13,6 +14,7 @@ pub mod LockOwners
 pub mod Keyed
 pub mod NewResources
 pub mod MovedToEnd
+pub mod MadeOrRefused
 pub mod MovedForGrant
 pub mod OtherLocks
 pub mod FoundInLists

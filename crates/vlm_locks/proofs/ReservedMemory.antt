@@ -11,7 +11,7 @@ use Rattle.vlm_collections.specs.Lists.{IsIn}
 use Rattle.vlm_records.specs.declared.handles.Place.{Place}
 use Rattle.vlm_records.specs.declared.handles.Place.TheVariants.{Queued}
 use Rattle.vlm_store.specs.Plain.{plain_processes, plain_resource, plain_resources}
-use Rattle.vlm_store.specs.Records.{DueChanges, FindsResource, HasRoom, HasRoomForLock, HasRoomForResource, IsParentOf}
+use Rattle.vlm_store.specs.Records.{DueChanges, FindsResource, HasRoom, HasRoomForLock, IsParentOf}
 use Rattle.vlm_store.specs.Records.{IsProcess, IsUnchanged, Records, Rooms, SameButNotices, StoredProcess, Stores}
 use Rattle.vlm_store.specs.Records.{but_notices, due_of, locks_at, process_with_lock, queued, resource_at, without_lock}
 use Rattle.vlm_store.specs.Records.{without_resource}
@@ -109,18 +109,17 @@ on_ok_of (Err e) f a b c = tt
 
 -- room is made, and then the ASTs are owed
 pub made_ready : {T E : Type 0} (r : Result T E) (e : NewLock) (s mid o : Records) → IsUnchanged s mid
-    → HasRoomForLock e.lkid mid → (e.res ≡ None → HasRoomForResource e.hash mid) → IsProcess e.owner e.pid mid
+    → HasRoomForLock e.lkid mid → IsProcess e.owner e.pid mid
     → OnOk r (plain_processes o ≡ plain_processes mid)
     → OnOk r ((pid : ℕ) → IsProcess e.owner pid mid → DueChanges pid (λ due. due + routines_of (Some e.asked)) mid o)
     → OnOk r (SameButNotices mid o) → OnOk r (IsReady e s o)
-made_ready r e s mid o unchanged lock resource lives =
+made_ready r e s mid o unchanged lock lives =
     on_ok_of r (λ statuses owed same. record {
       resources = same.resources ∙ ap (λ (x : Records). x.resources) unchanged.same;
       processes = same.processes ∙ ap (λ (x : Records). map but_notices x.processes) unchanged.same;
       keys = same.keys ∙ ap (λ (x : Records). x.keys) unchanged.same;
       statuses = statuses ∙ ap plain_processes unchanged.same;
       lock = subst (λ (room : Rooms). HasRoom e.lkid room.locks) (sym same.room) lock;
-      resource = λ none. subst (λ (room : Rooms). HasRoom e.hash room.resources) (sym same.room) (resource none);
       owed = λ pid.
           owed e.pid lives pid
           ∙ ap (λ (due : ℕ). cond (pid == e.pid) (due + routines_of (Some e.asked)) due) (ap (due_of pid) unchanged.same);

@@ -13,9 +13,9 @@ use Rattle.vlm_words.specs.State.{Process, Resource}
 use Rattle.vlm_model.specs.StatusBlocks.{processes_after_acceptance}
 use Rattle.vlm_words.specs.declared.resources.ValueBlock.{ValueBlock}
 use Rattle.vlm_store.specs.Plain.{plain_processes, plain_resources}
-use Rattle.vlm_store.specs.Records.{DueChanges, DuesStay, HasResource, HasRoomForLock, HasRoomForResource, IsParentOf}
-use Rattle.vlm_store.specs.Records.{IsProcess, IsSameLock, IsStored, ProcessesStay, Records, Stores, but_notices}
-use Rattle.vlm_store.specs.Records.{process_with_lock, resource_at}
+use Rattle.vlm_store.specs.Records.{DueChanges, DuesStay, HasResource, HasRoomForLock, HasRoomForResource, IsNoLess}
+use Rattle.vlm_store.specs.Records.{IsParentOf, IsProcess, IsSameLock, IsStored, ProcessesStay, Records, Stores}
+use Rattle.vlm_store.specs.Records.{but_notices, on_stored, owed_more, process_with_lock, resource_at}
 use Rattle.vlm_locks.specs.declared.new_locks.NewLock.{NewLock}
 use Rattle.vlm_locks.specs.Owing.{IsPaid, due_for}
 use Rattle.vlm_locks.specs.Rest.{IsAtRest, OtherLocksStay, OthersStay}
@@ -56,16 +56,25 @@ pub record HasRoomToEnter (e : NewLock) (s : Records) : Type 0 where
   pub resource : e.res ≡ None → HasRoomForResource e.hash s
   pub asts : routines_of (Some e.asked) ≡ 0
 
--- there is room for the lock and for its resource if it is new, and its process is owed the ASTs of the routines that
--- the request names; nothing else is changed
+-- there is room for the lock, and its process is owed the ASTs of the routines that the request names; nothing else is
+-- changed
 pub record IsReady (e : NewLock) (old new : Records) : Type 0 where
   pub resources : new.resources ≡ old.resources
   pub processes : ProcessesStay old new
   pub keys : new.keys ≡ old.keys
   pub statuses : plain_processes new ≡ plain_processes old
   pub lock : HasRoomForLock e.lkid new
-  pub resource : e.res ≡ None → HasRoomForResource e.hash new
   pub owed : DueChanges e.pid (λ due. due + routines_of (Some e.asked)) old new
+
+-- the process is owed these ASTs, and the room is the same or more; if the ASTs are forgiven nothing else is changed
+pub record IsOwing (e : NewLock) (old new : Records) : Type 0 where
+  pub processes : new ≡ record old {
+    processes = on_stored e.owner (owed_more (routines_of (Some e.asked))) old.processes;
+    room = new.room;
+  }
+  pub locks_room : IsNoLess old.room.locks new.room.locks
+  pub resources_room : IsNoLess old.room.resources new.room.resources
+  pub processes_room : IsNoLess old.room.processes new.room.processes
 
 -- the ASTs for a new lock with this row are due in addition, and the ASTs owed stay the same
 pub record IsDueMore (row : LockState) (old new : Records) : Type 0 where

@@ -7,11 +7,11 @@ ghost use Rattle.vlm_words.specs.Dues.{row_due};
 ghost use Rattle.vlm_model.specs.Enqueue.{is_at_once};
 ghost use Rattle.vlm_store.specs.Plain.{plain_processes, plain_resource};
 ghost use Rattle.vlm_store.specs.Records.{FindsResource, HasResource, HasRoomForLock, HasRoomForResource, IsProcess, IsUnchanged, Records, SameButNotices, StoredResource, due_of, resource_at};
-ghost use Rattle.vlm_locks.specs.Entering.{HasRoomToEnter, HasEntered, IsDueMore, IsEntered, IsReady, MayEnter, entered_queue, new_row, processes_entered};
+ghost use Rattle.vlm_locks.specs.Entering.{HasRoomToEnter, HasEntered, IsDueMore, IsEntered, IsOwing, IsReady, MayEnter, entered_queue, new_row, processes_entered};
 ghost use Rattle.vlm_locks.specs.Owing.{IsPaid, OwedMoves, granted_if_at_once};
 
 use crate::endings::{end_by_grant, grant_without_value_block};
-use crate::routines::owe_routines;
+use crate::routines::{forgive_routines, owe_routines};
 use std::alloc::AllocError;
 use vlm_procs::accept;
 use vlm_queue::is_empty;
@@ -99,21 +99,25 @@ fn enter_at(store: &mut Store, new_lock: &NewLock, res: ResAt)
     store.add_lock_reserved(&state, new_lock.owner, new_lock.parent, place);
 }
 
-fn resource_or_new(store: &mut Store, new_lock: &NewLock) -> ResAt
+// The resource of a new lock, which is added if it does not exist. If memory is refused, nothing is changed, except that
+// there may be more room.
+fn resource_or_new(store: &mut Store, new_lock: &NewLock) -> Result<ResAt, AllocError>
     requires may_enter { MayEnter new_lock.now store.old }
     requires found { FindsResource store.old new_lock.now.site.key new_lock.now.res }
-    requires room { new_lock.now.res ≡ None → HasRoomForResource new_lock.now.hash store.old }
-    ensures may_enter { MayEnter new_lock.now store.new }
-    ensures found { FindsResource store.new new_lock.now.site.key (Some result) }
-    ensures lock_room { HasRoomForLock new_lock.now.lkid store.old → HasRoomForLock new_lock.now.lkid store.new }
-    ensures entered { (then : Records) → IsEntered new_lock.now result store.new then
-        → IsEntered new_lock.now result store.old then }
-    ensures due { (row : LockState) (then : Records) → IsDueMore row store.new then
-        → IsDueMore row store.old then }
+    ensures may_enter { OnOk result (MayEnter new_lock.now store.new) }
+    ensures found { IfOk result (λ res. FindsResource store.new new_lock.now.site.key (Some res)) }
+    ensures lock_room { OnOk result (store.new.room.locks ≡ store.old.room.locks) }
+    ensures entered { IfOk result (λ res. (then : Records) → IsEntered new_lock.now res store.new then
+        → IsEntered new_lock.now res store.old then) }
+    ensures due { OnOk result ((row : LockState) (then : Records) → IsDueMore row store.new then
+        → IsDueMore row store.old then) }
+    ensures succeeds { (new_lock.now.res ≡ None → HasRoomForResource new_lock.now.hash store.old)
+        → IsOk result }
+    ensures err { OnErr result (IsUnchanged store.old store.new) }
 {
     match new_lock.res {
-        Some(res) => res,
-        None => store.add_resource_reserved(new_lock.serial, &new_lock.site, new_lock.hash),
+        Some(res) => Ok(res),
+        None => store.add_resource(new_lock.serial, &new_lock.site, new_lock.hash),
     }
 }
 
@@ -142,28 +146,15 @@ fn accept_entered(store: &mut Store, new_lock: &NewLock, res: ResAt)
     }
 }
 
-fn reserve(store: &mut Store, new_lock: &NewLock) -> Result<(), AllocError>
-    ensures unchanged { IsUnchanged store.old store.new }
-    ensures lock { OnOk result (HasRoomForLock new_lock.now.lkid store.new) }
-    ensures resource { OnOk result (new_lock.now.res ≡ None → HasRoomForResource new_lock.now.hash store.new) }
-    ensures succeeds { HasRoomForLock new_lock.now.lkid store.old
-        → (new_lock.now.res ≡ None → HasRoomForResource new_lock.now.hash store.old) → IsOk result }
-{
-    store.reserve_lock(new_lock.lkid)?;
-    match new_lock.res {
-        None => store.reserve_resource(new_lock.hash),
-        Some(_) => Ok(()),
-    }
-}
-
-// The growth: room for the lock, for a new resource, and for the ASTs of its routines.
+// Room for the lock, and for the ASTs of its routines.
 fn make_ready(store: &mut Store, new_lock: &NewLock) -> Result<(), AllocError>
     requires owner { IsProcess new_lock.now.owner new_lock.now.pid store.old }
     ensures ready { OnOk result (IsReady new_lock.now store.old store.new) }
+    ensures owes { OnOk result (IsOwing new_lock.now store.old store.new) }
     ensures succeeds { HasRoomToEnter new_lock.now store.old → IsOk result }
     ensures err { OnErr result (IsUnchanged store.old store.new) }
 {
-    reserve(store, new_lock)?;
+    store.reserve_lock(new_lock.lkid)?;
     owe_routines(store, new_lock.owner, Some(new_lock.asked))
 }
 
@@ -179,8 +170,15 @@ pub fn enter(store: &mut Store, new_lock: &NewLock) -> Result<ResAt, AllocError>
     ensures err { OnErr result (IsUnchanged store.old store.new) }
 {
     make_ready(store, new_lock)?;
-    let res = resource_or_new(store, new_lock);
-    enter_at(store, new_lock, res);
-    accept_entered(store, new_lock, res);
-    Ok(res)
+    match resource_or_new(store, new_lock) {
+        Ok(res) => {
+            enter_at(store, new_lock, res);
+            accept_entered(store, new_lock, res);
+            Ok(res)
+        }
+        Err(refused) => {
+            forgive_routines(store, new_lock.owner, Some(new_lock.asked));
+            Err(refused)
+        }
+    }
 }

@@ -3,10 +3,10 @@
 ghost use Rattle.std.specs.Prelude.{◌≡◌, ◌+◌, ℕ, IsOk, OnErr, OnOk};
 ghost use Rattle.vlm_words.specs.Dues.{routines_of};
 ghost use Rattle.vlm_store.specs.Plain.{plain_processes};
-ghost use Rattle.vlm_store.specs.Records.{DueChanges, IsProcess, SameButNotices, HasProcess};
+ghost use Rattle.vlm_store.specs.Records.{DueChanges, HasProcess, IsOwed, IsProcess, SameButNotices, on_stored, owed_less, owed_more};
 
 use std::alloc::AllocError;
-use vlm_procs::owe;
+use vlm_procs::{forgive, owe};
 use vlm_store::{ProcAt, Store};
 use vlm_words::locks::Request;
 
@@ -30,6 +30,9 @@ pub(crate) fn owe_routines(
     want: Option<Request>,
 ) -> Result<(), AllocError>
     requires { HasProcess owner store.old }
+    ensures exact { OnOk result (store.new ≡ record store.old {
+      processes = on_stored owner (owed_more (routines_of want)) store.old.processes;
+    }) }
     ensures processes { OnOk result (plain_processes store.new ≡ plain_processes store.old) }
     ensures owed { OnOk result ((pid : ℕ) → IsProcess owner pid store.old
         → DueChanges pid (λ due. due + routines_of want) store.old store.new) }
@@ -41,4 +44,17 @@ pub(crate) fn owe_routines(
         0 => Ok(()),
         count => owe(store, owner, count),
     }
+}
+
+/// Forgives a process the ASTs of the routines that its request names.
+// Kept out of line: only a refusal of memory comes here.
+#[inline(never)]
+pub(crate) fn forgive_routines(store: &mut Store, owner: ProcAt, want: Option<Request>)
+    requires there { HasProcess owner store.old }
+    requires owed { IsOwed owner (routines_of want) store.old }
+    ensures { store.new ≡ record store.old {
+      processes = on_stored owner (owed_less (routines_of want)) store.old.processes;
+    } }
+{
+    forgive(store, owner, routines_of(want));
 }

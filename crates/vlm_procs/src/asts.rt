@@ -4,7 +4,7 @@ ghost use Rattle.std.specs.Prelude.{◌≡◌, ◌<◌, ◌≤◌, ◌+◌, ◌-
 ghost use Rattle.vlm_model.specs.Asts.{asts_of, processes_after_queueing, processes_after_take};
 ghost use Rattle.vlm_words.specs.Processes.{oldest};
 ghost use Rattle.vlm_store.specs.Plain.{plain_processes};
-ghost use Rattle.vlm_store.specs.Records.{DueChanges, DuesStay, HasProcess, IsOwed, IsProcess, SameButNotices};
+ghost use Rattle.vlm_store.specs.Records.{DueChanges, DuesStay, HasProcess, IsOwed, IsProcess, SameButNotices, on_stored, owed_less, owed_more};
 
 use std::alloc::AllocError;
 use vlm_store::{ProcAt, Store};
@@ -37,6 +37,9 @@ pub fn take(store: &mut Store, at: ProcAt) -> Option<Ast>
 #[inline(never)]
 pub fn owe(store: &mut Store, at: ProcAt, count: usize) -> Result<(), AllocError>
     requires { HasProcess at store.old }
+    ensures exact { OnOk result (store.new ≡ record store.old {
+      processes = on_stored at (owed_more count) store.old.processes;
+    }) }
     ensures processes { OnOk result (plain_processes store.new ≡ plain_processes store.old) }
     ensures owed { OnOk result ((pid : ℕ) → IsProcess at pid store.old
         → DueChanges pid (λ due. due + count) store.old store.new) }
@@ -64,6 +67,9 @@ pub fn queue_ast(store: &mut Store, at: ProcAt, ast: Ast)
 pub fn forgive(store: &mut Store, at: ProcAt, count: usize)
     requires there { HasProcess at store.old }
     requires owed { IsOwed at count store.old }
+    ensures exact { store.new ≡ record store.old {
+      processes = on_stored at (owed_less count) store.old.processes;
+    } }
     ensures processes { plain_processes store.new ≡ plain_processes store.old }
     ensures owed { (pid : ℕ) → IsProcess at pid store.old
         → DueChanges pid (λ due. due - count) store.old store.new }

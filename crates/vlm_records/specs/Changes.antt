@@ -90,6 +90,7 @@ pub record PushesBack (at : ℕ) (to : Place) (old new : Queues) : Type 0 where
 
 -- a new resource with this face is the last one in the order of making
 pub record AddsResource (at : ℕ) (made : Face) (listed relisted : LinkedList InOrder) (old new : Queues) : Type 0 where
+  pub next : at ≡ old.resources.vacant_key
   pub within : at ≤ LAST_HANDLE
   pub fresh : get old.resources at ≡ None
   pub laid_out : IsLaidOut new
@@ -115,6 +116,7 @@ pub record RemovesResource (at : ℕ) (listed relisted : LinkedList InOrder) (ol
 -- a new process is the last one in the order of making
 pub record AddsProcess (at : ℕ) (made : Process) (listed relisted : LinkedList InOrder)
     (old new : Slab Process) : Type 0 where
+  pub next : at ≡ old.vacant_key
   pub within : at ≤ LAST_HANDLE
   pub fresh : get old at ≡ None
   pub linked : IsLinked process_links new relisted

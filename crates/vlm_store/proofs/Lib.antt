@@ -4,6 +4,7 @@ pub mod ProcessesChange
 pub mod ProcessAdded
 pub mod Dues
 pub mod FirstOf
+pub mod EnteringKeys
 pub mod Fitting
 pub mod HashedKeys
 pub mod CountsByMode

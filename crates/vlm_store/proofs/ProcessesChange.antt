@@ -222,9 +222,9 @@ pub reserved_kept : {s : Inside} → IsKept s → (processes : Slab Process) (in
 reserved_kept {s} kept processes index same entries =
     roomier s kept processes index (λ p. ap (λ x. get x p) same) (λ number. ap (lookup (nat_eq number)) entries)
 
--- more room for marks does so too
-pub more_marks : (s : Inside) → IsKept s → (marks : List (List Bool)) → MarksGrow s.living marks → IsKept (record s { living = marks })
-more_marks s kept marks grows = record {
+-- more room for the marks of living processes does so too
+pub more_living : (s : Inside) → IsKept s → (marks : List (List Bool)) → MarksGrow s.living marks → IsKept (record s { living = marks })
+more_living s kept marks grows = record {
   placed = kept.placed;
   tallied = kept.tallied;
   armed = kept.armed;
@@ -241,4 +241,25 @@ more_marks s kept marks grows = record {
   processes = kept.processes;
   marked = kept.marked;
   living = grown_marked is_of_nodes s.processes s.living marks grows kept.living;
+}
+
+-- and for the marks of processes with a pending AST
+pub more_pending : (s : Inside) → IsKept s → (marks : List (List Bool)) → MarksGrow s.pending marks → IsKept (record s { pending = marks })
+more_pending s kept marks grows = record {
+  placed = kept.placed;
+  tallied = kept.tallied;
+  armed = kept.armed;
+  wait_list = kept.wait_list;
+  linked = kept.linked;
+  ordered = kept.ordered;
+  locks = kept.locks;
+  resources = kept.resources;
+  owned = kept.owned;
+  below = kept.below;
+  named = kept.named;
+  processes_linked = kept.processes_linked;
+  processes_ordered = kept.processes_ordered;
+  processes = kept.processes;
+  marked = grown_marked waits_in s.processes s.pending marks grows kept.marked;
+  living = kept.living;
 }

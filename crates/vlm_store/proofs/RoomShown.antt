@@ -194,10 +194,13 @@ pub lock_room : (s : Inside) (lkid : ℕ) → HasRoom lkid (records_shown s).roo
 lock_room s lkid has = has_room s.queues.locks (spares_of s.lock_index) lkid
     (shown_room (λ r. HasRoom lkid r.locks) (tables s.queues s.order (beside_shown s)) has)
 
-pub resource_room : (s : Inside) (hash : ℕ) → HasRoom hash (records_shown s).room.resources → HasRoomFor s.queues.resources 1
-    × (s.queues.resources.vacant_key ≤ LAST_HANDLE) × (0 < spare_for (spares_in s.resource_index) hash)
-resource_room s hash has = has_room s.queues.resources (spares_in s.resource_index) hash
-    (shown_room (λ r. HasRoom hash r.resources) (tables s.queues s.order (beside_shown s)) has)
+pub resource_slot : (s : Inside) → HasSlot (records_shown s).room.resources
+    → HasRoomFor s.queues.resources 1 × (s.queues.resources.vacant_key ≤ LAST_HANDLE)
+resource_slot s has = has_slot s.queues.resources (spares_in s.resource_index)
+    (shown_room (λ r. HasSlot r.resources) (tables s.queues s.order (beside_shown s)) has)
+
+pub resource_find : (s : Inside) (hash : ℕ) → HasRoom hash (records_shown s).room.resources → 0 < spare_for (spares_in s.resource_index) hash
+resource_find s hash has = shown_room (λ r. 0 < spare_for r.resources.finds hash) (tables s.queues s.order (beside_shown s)) has.find
 
 pub process_room : (s : Inside) (pid : ℕ) → HasRoom pid (records_shown s).room.processes → HasRoomFor s.processes 1
     × (s.processes.vacant_key ≤ LAST_HANDLE) × (1 ≤ spare s.process_index)
@@ -262,12 +265,17 @@ resource_room_kept s kept resources index is finds =
       living = kept.living;
     }
 
--- a caller sees the room that was made
+-- a caller sees the room that was made in a slab
+pub has_slot_made : {A E T : Type 0} (r : Result A E) (nodes : Slab T) (finds : List ℕ)
+    → OnOk r (HasRoomFor nodes 1) → OnOk r (nodes.vacant_key ≤ LAST_HANDLE) → OnOk r (HasSlot (room_of nodes finds))
+has_slot_made (Ok x) nodes finds slot handle =
+    record { slot = room_slot nodes slot; handle = subst (λ k. k ≤ LAST_HANDLE) (sym (room_handle nodes)) handle }
+has_slot_made (Err e) nodes finds slot handle = tt
+
+-- and in an index too
 pub has_reserved : {A E T : Type 0} (r : Result A E) (nodes : Slab T) (finds : List ℕ) (number : ℕ)
     → OnOk r (HasRoomFor nodes 1) → OnOk r (nodes.vacant_key ≤ LAST_HANDLE) → OnOk r (0 < spare_for finds number)
     → OnOk r (HasRoom number (room_of nodes finds))
-has_reserved (Ok x) nodes finds number slot handle find = record {
-  slot = record { slot = room_slot nodes slot; handle = subst (λ k. k ≤ LAST_HANDLE) (sym (room_handle nodes)) handle };
-  find = find;
-}
+has_reserved (Ok x) nodes finds number slot handle find =
+    record { slot = record { slot = room_slot nodes slot; handle = subst (λ k. k ≤ LAST_HANDLE) (sym (room_handle nodes)) handle }; find = find }
 has_reserved (Err e) nodes finds number slot handle find = tt

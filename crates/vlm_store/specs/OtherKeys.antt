@@ -1,7 +1,7 @@
 -- Resources by their keys, with a note of the hashes that occur.
 use Rattle.std.specs.Prelude.{◌≡◌, ◌≤◌, ◌%◌, ℕ, Bool, true, false, length, slice_index_or, None, Some, IsSome, Result, IsOk, OnOk}
 use Rattle.std.specs.Bool.{OnFalse, OnTrue}
-use Rattle.indexmap.specs.IndexMap.{IndexMap, Updates, get, spare}
+use Rattle.indexmap.specs.IndexMap.{IndexMap, IsUnchanged, Updates, get, spare}
 use Rattle.vlm_collections.specs.declared.hashers.HashSpread.{HashSpread}
 use Rattle.vlm_store.specs.declared.hashed.HashedKey.{HashedKey}
 use Rattle.vlm_store.specs.declared.other_keys.OtherKeys.TheInside.{Inside}
@@ -24,7 +24,7 @@ FindsSame old new = (k : HashedKey) → get is_same_hashed new k ≡ get is_same
 
 -- there is room for one more resource, or memory was refused
 pub record HasRoomMade {A E : Type 0} (old new : KeyMap) (made : Result A E) : Type 0 where
-  pub same : FindsSame old new
+  pub same : IsUnchanged old new
   pub room : spare old ≤ spare new
   pub find : OnOk made (1 ≤ spare new)
   pub succeeds : 1 ≤ spare old → IsOk made

@@ -35,10 +35,11 @@ impl Store {
         Ok(self.add_lock_reserved(row, owner, parent, to))
     }
 
-    /// Adds a resource as `add_resource_reserved` does, and makes the room. If memory is refused or no handle is left,
-    /// nothing is changed, except that there may be more room.
-    pub fn add_resource(&mut self, serial: u32, site: &Site) -> Result<ResAt, AllocError>
+    /// Adds a resource without locks, last in order, its value block valid zeros. `hash_of` gives the hash. If memory
+    /// is refused or no handle is left, nothing is changed, except that there may be more room.
+    pub fn add_resource(&mut self, serial: u32, site: &Site, hash: u32) -> Result<ResAt, AllocError>
         requires new { IsNewKey site.now.key self.old }
+        requires hash { hash ≡ hash_key self.old.keys site.now.key }
         ensures added { IfOk result (λ res. self.new
             ≡ with_resource_room self.new.room.resources (record self.old {
               resources = self.old.resources ++ new_stored_resource res serial site.now ∷ [];
@@ -46,12 +47,10 @@ impl Store {
         ensures fresh { IfOk result (λ res. ¬ HasResource res self.old) }
         ensures taken { OnOk result (IsTaken self.old.room.resources self.new.room.resources) }
         ensures sound { OnOk result (AreSound self.old self.new) }
-        ensures succeeds { HasRoomForResource (hash_key self.old.keys site.now.key) self.old
-            → IsOk result }
+        ensures succeeds { HasRoomForResource hash self.old → IsOk result }
         ensures err { OnErr result (IsUnchanged self.old self.new) }
     {
-        let hash = self.hash_of(&site.key);
-        self.reserve_resource(hash)?;
-        Ok(self.add_resource_reserved(serial, site, hash))
+        self.reserve_resource()?;
+        self.add_resource_reserved(serial, site, hash)
     }
 }

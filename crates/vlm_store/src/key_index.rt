@@ -1,6 +1,6 @@
 //! The index of resources by their keys.
 
-ghost use Rattle.std.specs.Prelude.{◌≡◌, ◌+◌, ◌<◌, ℕ, Some, IsOk, OnOk};
+ghost use Rattle.std.specs.Prelude.{◌≡◌, ◌+◌, ◌<◌, ℕ, Some, IsOk, OnErr, OnOk};
 ghost use Rattle.slab.specs.Slab.{ContainsKey};
 ghost use Rattle.vlm_collections.specs.Parts.{FindsSame, KeepsSpares, UsesOneSpare, spare_for, spares_of};
 ghost use Rattle.vlm_store.specs.HashedKeys.{hashed_in};
@@ -21,8 +21,8 @@ pub(crate) struct KeyIndex {
     main: PartedIndex<ResourceKind>,
     // all other resources, by their keys; nearly always empty
     others: OtherKeys,
-    // how often room was made for a resource
-    reserves: u32,
+    // how many resources were to be added
+    inserts: u32,
 }
 
 // How many resources are added between two looks at a part of the index.
@@ -34,7 +34,7 @@ impl Drop for KeyIndex {
         let KeyIndex {
             main: _,
             others: _,
-            reserves: _,
+            inserts: _,
         } = self;
     }
 }
@@ -47,32 +47,20 @@ impl KeyIndex {
         KeyIndex {
             main: PartedIndex::new(alloc),
             others: OtherKeys::new(alloc),
-            reserves: 0,
+            inserts: 0,
         }
     }
 
-    /// Makes room for one more resource with this hash, if there is no room.
-    pub fn reserve(&mut self, hash: u32) -> Result<(), AllocError>
-        ensures same { IsSame self.old self.new }
-        ensures room { KeepsSpares (spares_in self.old) (spares_in self.new) }
-        ensures find { OnOk result (0 < spare_for (spares_in self.new) hash) }
-        ensures succeeds { 0 < spare_for (spares_in self.old) hash → IsOk result }
-    {
-        self.look_ahead();
-        self.main.reserve(hash)?;
-        self.others.reserve()
-    }
-
-    // Counts the calls. One of 1,024 looks at a part of the index, each at the next part.
+    // Counts the inserts. One of 1,024 looks at a part of the index, each at the next part.
     #[inline(always)]
     fn look_ahead(&mut self)
         ensures main { FindsSame self.old.main self.new.main }
         ensures room { KeepsSpares (spares_of self.old.main) (spares_of self.new.main) }
         ensures others { self.new.others ≡ self.old.others }
     {
-        self.reserves = self.reserves.wrapping_add(1);
-        if self.reserves % BETWEEN_LOOKS == 0 {
-            self.main.grow_early(self.reserves);
+        self.inserts = self.inserts.wrapping_add(1);
+        if self.inserts % BETWEEN_LOOKS == 0 {
+            self.main.grow_early(self.inserts);
         }
     }
 
@@ -88,15 +76,21 @@ impl KeyIndex {
         self.others.get(key, hash)
     }
 
-    /// Adds a resource. If another resource has the same hash, the new one goes to `others`.
-    pub fn insert(&mut self, key: &Key, hash: u32, at: ResAt)
-        requires { 0 < spare_for (spares_in self.old) hash }
-        ensures enters { Enters (record { key = key.now; hash = hash }) at self.old self.new }
-        ensures taken { UsesOneSpare (spares_in self.old) (spares_in self.new) }
+    /// Adds a resource. If another resource has the same hash, the new one goes to `others`. If memory is refused,
+    /// nothing is changed, except that there may be more room.
+    pub fn insert(&mut self, key: &Key, hash: u32, at: ResAt) -> Result<(), AllocError>
+        ensures enters { OnOk result (Enters (record { key = key.now; hash = hash }) at self.old self.new) }
+        ensures taken { OnOk result (UsesOneSpare (spares_in self.old) (spares_in self.new)) }
+        ensures succeeds { 0 < spare_for (spares_in self.old) hash → IsOk result }
+        ensures refused { OnErr result (IsSame self.old self.new) }
+        ensures kept { OnErr result (KeepsSpares (spares_in self.old) (spares_in self.new)) }
     {
-        if !self.main.insert(hash, at) {
+        self.look_ahead();
+        self.others.reserve()?;
+        if !self.main.insert(hash, at)? {
             self.others.insert(key, hash, at);
         }
+        Ok(())
     }
 
     pub fn remove(&mut self, resource: &Resource)

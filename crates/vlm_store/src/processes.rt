@@ -73,13 +73,13 @@ impl Store {
         ensures err { OnErr result (IsUnchanged self.old self.new) }
     {
         reserve_slot(&mut self.processes)?;
-        self.process_index.reserve(1)?;
         self.living.make_room(pid)?;
         self.pending.make_room(pid)?;
+        // The index has the handle first, since nothing after it needs memory.
+        let at = ProcAt::of(self.processes.vacant_key());
+        self.process_index.insert(pid, at)?;
         let process = Process::new(pid, declaration, blocks);
-        let slot = put_in(&mut self.processes, &mut self.process_order, process);
-        let at = ProcAt::of(slot);
-        let _ = self.process_index.insert(pid, at);
+        put_in(&mut self.processes, &mut self.process_order, process);
         self.living.mark(pid);
         Ok(at)
     }

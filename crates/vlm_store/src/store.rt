@@ -1,6 +1,6 @@
 //! The store: its fields, and its locks and resources.
 
-ghost use Rattle.std.specs.Prelude.{◌≡◌, ◌||◌, [], ◌∷◌, ◌++◌, length, map, IfSome, IsOk, OnOk};
+ghost use Rattle.std.specs.Prelude.{◌≡◌, ◌||◌, [], ◌∷◌, ◌++◌, length, map, IfOk, IfSome, IsOk, OnErr, OnOk};
 ghost use Rattle.std.specs.List.{list_any};
 ghost use Rattle.std.specs.Bool.{OnFalse, OnTrue};
 ghost use Rattle.std.specs.Option.{ForSome};
@@ -10,7 +10,7 @@ ghost use Rattle.vlm_records.specs.declared.handles.Place.{Place};
 ghost use Rattle.vlm_words.specs.Rows.{blocks_request};
 ghost use Rattle.vlm_store.specs.Index.{hash_key};
 ghost use Rattle.vlm_store.specs.Held.{held_counts};
-ghost use Rattle.vlm_store.specs.Records.{AreSound, FindsLock, FindsResource, HasNoSublocks, HasPlace, HasResource, HasRoomForLock, HasRoomForResource, IsGivenBack, IsLock, IsLoose, IsLooseRow, IsTaken, IsUnchanged, IsParentOf, IsProcess, at_after, disarming, first_at, first_resource_at, fits_beside, resource_at_after, resource_at, rows_of_locks, IsIdle, IsNewKey, IsNewLock, IsRowOf, IsSound, IsStored, Stores, locks_at, moving, NoneIsLoose, new_stored_resource, nothing, on_resource, queued, with_lists, with_lock_pushed, with_lock_unlinked, with_lock_room, with_new_lock, with_resource_room, without_resource, without_stored_lock};
+ghost use Rattle.vlm_store.specs.Records.{AreSound, FindsLock, FindsResource, HasNoSublocks, HasPlace, HasResource, HasRoomForLock, HasRoomForResource, HasSlot, IsGivenBack, IsLock, IsLoose, IsLooseRow, IsTaken, IsUnchanged, IsParentOf, IsProcess, at_after, disarming, first_at, first_resource_at, fits_beside, resource_at_after, resource_at, rows_of_locks, IsIdle, IsNewKey, IsNewLock, IsRowOf, IsSound, IsStored, Stores, locks_at, moving, NoneIsLoose, new_stored_resource, nothing, on_resource, queued, with_lists, with_lock_pushed, with_lock_unlinked, with_lock_room, with_new_lock, with_resource_room, without_resource, without_stored_lock};
 ghost use Rattle.vlm_store.specs.Total.{lock_total};
 
 use crate::key_index::KeyIndex;
@@ -28,7 +28,7 @@ use vlm_words::modes::Mode;
 use vlm_words::resources::{Key, Queue, Site, ValueBlock};
 
 /// All records of the machine. A call takes constant time, except those that make room (`reserve_lock`, `add_lock`,
-/// `reserve_resource`, `add_resource`, `add_process`, `new_status_blocks`, `owe`), and `nth_process`, which walks.
+/// `add_resource`, `add_process`, `new_status_blocks`, `owe`), and `nth_process`, which walks.
 pub struct Store {
     // makes status blocks and the room for ASTs; slabs and indexes have a copy
     pub(crate) alloc: Global,
@@ -190,23 +190,13 @@ impl Store {
         ensures taken { IsTaken self.old.room.locks self.new.room.locks }
         ensures sound { AreSound self.old self.new }
     {
+        let above = parent;
         let slot = self.queues.add(row, owner, parent, to);
-        let Lock {
-            place,
-            owner,
-            parent,
-            ..
-        } = self.queues.locks[slot];
-        join_wait_list(
-            &mut self.queues.locks,
-            &mut self.wait_list,
-            slot,
-            &place.place(),
-        );
+        join_wait_list(&mut self.queues.locks, &mut self.wait_list, slot, &to);
         join_process(&mut self.processes, &mut self.queues.locks, slot, owner);
-        join_parent(&mut self.queues.locks, slot, parent.get());
+        join_parent(&mut self.queues.locks, slot, above);
         let at = LockAt::of(slot);
-        self.lock_index.insert(row.lkid(), at);
+        let _ = self.lock_index.insert(row.lkid(), at);
         at
     }
 
@@ -298,36 +288,42 @@ impl Store {
         self.lock_index.remove(row.lkid());
     }
 
-    /// Makes room for one more resource whose key has this hash, if there is no room.
-    pub fn reserve_resource(&mut self, hash: u32) -> Result<(), AllocError>
+    // Makes room for one more record of a resource, if there is no room.
+    pub(crate) fn reserve_resource(&mut self) -> Result<(), AllocError>
         ensures unchanged { IsUnchanged self.old self.new }
         ensures only { self.new ≡ with_resource_room self.new.room.resources self.old }
-        ensures room { OnOk result (HasRoomForResource hash self.new) }
-        ensures succeeds { HasRoomForResource hash self.old → IsOk result }
+        ensures room { OnOk result (HasSlot self.new.room.resources) }
+        ensures succeeds { HasSlot self.old.room.resources → IsOk result }
         ensures sound { IsSound self.old }
     {
-        reserve_slot(&mut self.queues.resources)?;
-        self.resource_index.reserve(hash)
+        reserve_slot(&mut self.queues.resources)
     }
 
-    /// Adds a resource without locks, last in order, its value block valid zeros. `reserve_resource` made the room.
-    pub fn add_resource_reserved(&mut self, serial: u32, site: &Site, hash: u32) -> ResAt
-        requires room { HasRoomForResource hash self.old }
+    // Adds a resource whose record has room. The index has its handle first, since only the index can need memory.
+    pub(crate) fn add_resource_reserved(
+        &mut self,
+        serial: u32,
+        site: &Site,
+        hash: u32,
+    ) -> Result<ResAt, AllocError>
+        requires room { HasSlot self.old.room.resources }
         requires new { IsNewKey site.now.key self.old }
         requires hash { hash ≡ hash_key self.old.keys site.now.key }
-        ensures added { self.new ≡ with_resource_room self.new.room.resources (record self.old {
-          resources = self.old.resources ++ new_stored_resource result serial site.now ∷ [];
-        }) }
-        ensures fresh { ¬ HasResource result self.old }
-        ensures taken { IsTaken self.old.room.resources self.new.room.resources }
-        ensures sound { AreSound self.old self.new }
+        ensures added { IfOk result (λ res. self.new
+            ≡ with_resource_room self.new.room.resources (record self.old {
+              resources = self.old.resources ++ new_stored_resource res serial site.now ∷ [];
+            })) }
+        ensures fresh { IfOk result (λ res. ¬ HasResource res self.old) }
+        ensures taken { OnOk result (IsTaken self.old.room.resources self.new.room.resources) }
+        ensures sound { OnOk result (AreSound self.old self.new) }
+        ensures succeeds { HasRoomForResource hash self.old → IsOk result }
+        ensures err { OnErr result (IsUnchanged self.old self.new) }
     {
-        let res = ResAt::of(
-            self.queues
-                .add_resource(&mut self.order, serial, site, hash),
-        );
-        self.resource_index.insert(&site.key, hash, res);
-        res
+        let res = ResAt::of(self.queues.resources.vacant_key());
+        self.resource_index.insert(&site.key, hash, res)?;
+        self.queues
+            .add_resource(&mut self.order, serial, site, hash);
+        Ok(res)
     }
 
     /// The first lock of a queue, if there is one.

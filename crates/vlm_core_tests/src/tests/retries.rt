@@ -263,12 +263,8 @@ fn a_mode_blocks_what_is_queued(rt: HostRuntime) -> Result<(), Fail> {
     Ok(())
 }
 
-// Makes room for a resource with this key, and for lock 1. Where memory was refused once it is made again.
-fn make_room(store: &mut Store, key: &Key) -> Result<(), AllocError> {
-    let hash = store.hash_of(key);
-    if store.reserve_resource(hash).is_err() {
-        store.reserve_resource(hash)?;
-    }
+// Makes room for lock 1. Where memory was refused once it is made again.
+fn make_room(store: &mut Store) -> Result<(), AllocError> {
     if store.reserve_lock(1).is_err() {
         store.reserve_lock(1)?;
     }
@@ -280,8 +276,8 @@ fn what_has_room_is_added(rt: HostRuntime) -> Result<(), Fail> {
     let key = key(b"A")?;
     let mut store = Store::new(rt.alloc());
     declare(&rt, &mut store, 1)?;
-    make_room(&mut store, &key)?;
-    stores::open(&mut store, 1, &key)?;
+    open(&rt, &mut store, 1, &key)?;
+    make_room(&mut store)?;
     stores::add(&rt, &mut store, &key, row(1, Some(Mode::Ex), None))?;
     assert!(rt; !fits(&rt, &store, &key, Mode::Cr, None));
     Ok(())

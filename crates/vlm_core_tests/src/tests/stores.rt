@@ -82,7 +82,7 @@ pub fn open(store: &mut Store, serial: u32, key: &Key) -> Result<(), AllocError>
                 domain: Domain::System,
                 level: 0,
             };
-            store.add_resource(serial, &site)?;
+            store.add_resource(serial, &site, store.hash_of(key))?;
             Ok(())
         }
     }

@@ -22,6 +22,7 @@ push_back-requires-clause-unlisted c found =
 
 pub returns : goal.returns
 returns c = record {
+  next = search rules;
   within = search rules;
   fresh = search rules;
   linked = search rules;

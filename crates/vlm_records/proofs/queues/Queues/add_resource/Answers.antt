@@ -15,6 +15,7 @@ push_back-requires-clause-linked c =
 
 pub returns : goal.returns
 returns c = record {
+  next = search rules;
   within = search rules;
   fresh = search rules;
   laid_out = record {

@@ -1,18 +1,19 @@
-use Rattle.std.proofs.Common.{◌≡◌, ◌∙◌, ℕ, None, Some, IsSome, is_none, ap, sym, refl, arith, ◌+◌}
+use Rattle.std.proofs.Common.{◌≡◌, ◌∙◌, ℕ, Bool, true, None, Some, IsSome, is_none, Result, Ok, Err, IfOk, IsOk, true≢false, ap, sym, refl, arith, ◌+◌}
 use Rattle.std.specs.Option.{option_map}
+use Rattle.std.specs.Bool.{OnTrue}
 use Rattle.std.proofs.lemmas.Bool.{OnTrue_at}
 use Rattle.slab.specs.Slab.{get as slot_of}
 use Rattle.vlm_collections.specs.Parts.{spares_of}
 use Rattle.vlm_collections.proofs.Keeping.{relinked_same}
 use Rattle.vlm_records.specs.declared.locks.Lock.{Lock}
-use Rattle.vlm_records.specs.Kin.{owner_in, parent_in, with_own_links}
-use Rattle.vlm_records.specs.Shown.{but_queued, lkid_of, new_lock}
-use Rattle.vlm_records.proofs.PlacesOnLists.{last_noted, noted_as, there_by_part}
+use Rattle.vlm_records.specs.Kin.{parent_in, with_own_links}
+use Rattle.vlm_records.specs.Shown.{lkid_of}
+use Rattle.vlm_records.proofs.PlacesOnLists.{last_noted}
 use Rattle.vlm_store.specs.Kept.{beside_shown}
 use Rattle.vlm_store.specs.Records.{IsTaken}
 use Rattle.vlm_store.specs.Store.{lkid_at, tables}
 use Rattle.vlm_store.proofs.Indexing.{Indexes-added}
-use Rattle.vlm_store.proofs.Joining.{IsNewIn, after_joining, joined_kept, joined_lkids, joined_records, linked_parent_there, listed_owner, listed_parent}
+use Rattle.vlm_store.proofs.Joining.{IsNewIn, after_joining, joined_kept, joined_lkids, joined_records, linked_parent_there, new_owner, new_parent}
 use Rattle.vlm_store.proofs.Joining.{new_below, new_lkid, new_owned, new_there, newly_in, other_lkids, owner_was_there}
 use Rattle.vlm_store.proofs.KeptRecords.{place_there}
 use Rattle.vlm_store.proofs.Kinship.{own_below}
@@ -40,11 +41,6 @@ add-slot-requires-clause-there c =
     let kept = c.self.invariant in
     place_there s.queues s.order (beside_shown s) kept.placed kept.linked kept.ordered c.args.to (rw (← c.self.view_is) at c.requires.there)
 
-pub index-requires : goal.index-requires
-index-requires c =
-    there_by_part but_queued (slot_of c.add-slot.new.self.locks c.add-slot.result)
-    (Some (new_lock c.args.row.now c.args.owner c.args.parent)) c.add-slot.ensures.lock refl
-
 pub join_wait_list-requires-clause-wait_list : goal.join_wait_list-requires-clause-wait_list
 join_wait_list-requires-clause-wait_list c =
     let s = c.self.inside in
@@ -55,8 +51,7 @@ join_wait_list-requires-clause-wait_list c =
 pub join_wait_list-requires-clause-noted : goal.join_wait_list-requires-clause-noted
 join_wait_list-requires-clause-noted c =
     let added = c.add-slot.ensures in
-    noted_as _ _ c.index.ensures (rw (last_noted c.add-slot.new.self c.add-slot.result c.args.to _ added.laid_out.placed added.here) refl)
-    ∙ ap Some (sym c.place.ensures)
+    last_noted c.add-slot.new.self c.add-slot.result c.args.to _ added.laid_out.placed added.here
 
 -- before the lock is listed by its process
 new_to_process : (c : goal.After-join_process-arg-2-1) → IsNewIn c.self.inside c.add-slot.new.self c.join_wait_list.new.locks c.add-slot.result
@@ -66,7 +61,7 @@ new_to_process c =
     (rw (← c.self.view_is) at c.requires.owner) (rw (← c.self.view_is) at c.requires.parent)
 
 pub join_process-requires-clause-owner : goal.join_process-requires-clause-owner
-join_process-requires-clause-owner c = listed_owner (new_to_process c) ∙ ap owner_in c.index.ensures
+join_process-requires-clause-owner c = new_owner (new_to_process c)
 
 pub join_process-requires-clause-present : goal.join_process-requires-clause-present
 join_process-requires-clause-present c = new_there (new_to_process c)
@@ -78,7 +73,7 @@ pub join_process-requires-clause-there : goal.join_process-requires-clause-there
 join_process-requires-clause-there c = owner_was_there (new_to_process c)
 
 -- before it is listed by its parent
-new_to_parent : (c : goal.After-get) → IsNewIn c.self.inside c.add-slot.new.self c.join_wait_list.new.locks c.add-slot.result
+new_to_parent : (c : goal.After-join_parent-arg-1) → IsNewIn c.self.inside c.add-slot.new.self c.join_wait_list.new.locks c.add-slot.result
     c.args.row.now c.args.owner c.args.parent c.args.to
 new_to_parent c =
     newly_in c.self.invariant c.add-slot.ensures c.join_wait_list.ensures.rest
@@ -87,7 +82,7 @@ new_to_parent c =
 pub join_parent-requires-clause-parent : goal.join_parent-requires-clause-parent
 join_parent-requires-clause-parent c =
     relinked_same with_own_links parent_in (λ l pair. refl) c.join_wait_list.new.locks c.join_process.new.locks c.join_process.ensures.relinks c.add-slot.result
-    ∙ listed_parent (new_to_parent c) ∙ ap parent_in c.index.ensures ∙ sym c.get.ensures
+    ∙ new_parent (new_to_parent c)
 
 pub join_parent-requires-clause-below : goal.join_parent-requires-clause-below
 join_parent-requires-clause-below c =
@@ -96,8 +91,9 @@ join_parent-requires-clause-below c =
 pub join_parent-requires-clause-there : goal.join_parent-requires-clause-there
 join_parent-requires-clause-there c = linked_parent_there (new_to_parent c) c.join_process.new.locks c.join_process.ensures.relinks
 
-pub insert-requires : goal.insert-requires
-insert-requires c = (omega arith, rw c.lkid.ensures (lock_room c.self.inside c.args.row.now.lkid (rw (← c.self.view_is) at c.requires.room)).2)
+-- there is room in the index
+entered : (c : goal.After-insert) → IsOk c.insert.result
+entered c = c.insert.ensures.succeeds (rw c.lkid.ensures (lock_room c.self.inside c.args.row.now.lkid (rw (← c.self.view_is) at c.requires.room)).2)
 
 -- at the end
 new_in : (c : goal.After-insert) → IsNewIn c.self.inside c.add-slot.new.self c.join_wait_list.new.locks c.add-slot.result
@@ -105,6 +101,11 @@ new_in : (c : goal.After-insert) → IsNewIn c.self.inside c.add-slot.new.self c
 new_in c =
     newly_in c.self.invariant c.add-slot.ensures c.join_wait_list.ensures.rest
     (rw (← c.self.view_is) at c.requires.owner) (rw (← c.self.view_is) at c.requires.parent)
+
+-- a new number is written
+written : {E A : Type 0} {new : Bool} (r : Result Bool E) → IsOk r → IfOk r (λ is. is ≡ new) → new ≡ true → IfOk r (λ is. OnTrue is A) → A
+written (Ok is) ok same fresh writes = OnTrue_at (same ∙ fresh) writes
+written (Err e) ok same fresh writes = absurd (true≢false (sym ok))
 
 pub invariant_of-self : goal.invariant_of-self
 invariant_of-self c =
@@ -115,8 +116,8 @@ invariant_of-self c =
     let lkid = c.args.row.now.lkid in
     let lkids = joined_lkids new c.join_process.ensures c.join_parent.ensures in
     let none = no_lock_found s kept lkid (rw (← c.self.view_is) at c.requires.new) in
-    let is_new = rw c.lkid.ensures at c.insert.ensures.is_new in
-    let writes = OnTrue_at (is_new ∙ ap is_none none) (rw (c.of-at.ensures, c.lkid.ensures) at c.insert.ensures.writes) in
+    let writes = written c.insert.result (entered c) (rw c.lkid.ensures at c.insert.ensures.is_new) (ap is_none none)
+    (rw (c.of-at.ensures, c.lkid.ensures) at c.insert.ensures.writes) in
     joined_kept new c.join_process.ensures c.join_parent.ensures c.join_wait_list.new.wait_list c.insert.new.self c.join_wait_list.ensures.wait_list
     (Indexes-added s.lock_index c.insert.new.self lkid (lkid_at s.queues) (lkid_at q') c.add-slot.result writes
     (ap (option_map lkid_of) c.add-slot.ensures.fresh) (lkids c.add-slot.result ∙ new_lkid new) (λ k differs. lkids k ∙ other_lkids new k differs)

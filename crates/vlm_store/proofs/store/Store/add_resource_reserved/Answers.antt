@@ -1,4 +1,4 @@
-use Rattle.std.proofs.Common.{◌≡◌, arith, ◌∙◌, ◌++◌, ◌∷◌, [], ℕ, None, Some, IsSome, ap, refl, subst}
+use Rattle.std.proofs.Common.{◌≡◌, arith, ◌∙◌, ◌++◌, ◌∷◌, [], ℕ, None, Some, IsSome, ap, refl, subst, sym}
 use Rattle.std.specs.Option.{option_map}
 use Rattle.slab.specs.Slab.{get as slot_of, get}
 use Rattle.vlm_collections.specs.Parts.{handle_in, spares_of}
@@ -17,6 +17,7 @@ use Rattle.vlm_store.specs.Kept.{beside_shown, found_in}
 use Rattle.vlm_store.specs.KeyIndexes.{Enters, spares_in}
 use Rattle.vlm_store.specs.Records.{new_stored_resource, IsTaken}
 use Rattle.vlm_store.specs.Store.{lkid_at, resource_of, tables, records_of}
+use Rattle.vlm_store.proofs.EnteringKeys.{on_err}
 use Rattle.vlm_store.proofs.HashedKeys.{by_keys, fresh_label, hashed_added, hashed_by_face, hashed_is}
 use Rattle.vlm_store.proofs.Indexing.{Indexes-same}
 use Rattle.vlm_store.proofs.KeptRecords.{no_resource}
@@ -24,9 +25,12 @@ use Rattle.vlm_store.proofs.Kinship.{records_keys, queued_below, queued_named, q
 use Rattle.vlm_store.proofs.Layouts.{HasResource-order, resource_made}
 use Rattle.vlm_store.proofs.LivingProcesses.{is_sound}
 use Rattle.vlm_store.proofs.LocksChange.{laid_out_kept}
-use Rattle.vlm_store.proofs.RoomShown.{is_taken, resource_room, room_of_same, room_shown, rooms_are}
+use Rattle.vlm_store.proofs.RoomShown.{is_taken, resource_find, resource_room_kept, resource_room_made, resource_slot, room_of_same, room_shown, rooms_are}
 use Rattle.vlm_store.proofs.WaitListed.{wait_list_same}
 use Rattle.vlm_store.proofs.store.Store.add_resource_reserved.Goals as goal
+
+pub of-res-requires : goal.of-res-requires
+of-res-requires c = rw c.vacant_key.ensures.value (resource_slot c.self.inside (rw (← c.self.view_is) at c.requires.room)).1
 
 pub add_resource-requires-clause-laid_out : goal.add_resource-requires-clause-laid_out
 add_resource-requires-clause-laid_out c = laid_out_kept c.self.invariant
@@ -35,16 +39,31 @@ pub add_resource-requires-clause-linked : goal.add_resource-requires-clause-link
 add_resource-requires-clause-linked c = c.self.invariant.linked
 
 pub add_resource-requires-clause-room : goal.add_resource-requires-clause-room
-add_resource-requires-clause-room c = (resource_room c.self.inside c.args.hash (rw (← c.self.view_is) at c.requires.room)).0
+add_resource-requires-clause-room c = (resource_slot c.self.inside (rw (← c.self.view_is) at c.requires.room)).0
 
 pub add_resource-requires-clause-within : goal.add_resource-requires-clause-within
-add_resource-requires-clause-within c = (resource_room c.self.inside c.args.hash (rw (← c.self.view_is) at c.requires.room)).1
+add_resource-requires-clause-within c = (resource_slot c.self.inside (rw (← c.self.view_is) at c.requires.room)).1
 
-pub insert-requires : goal.insert-requires
-insert-requires c = (resource_room c.self.inside c.args.hash (rw (← c.self.view_is) at c.requires.room)).2
+-- the resource has the handle that its key was given
+at_is : (c : goal.After-add_resource) → c.of-res.result ≡ c.add_resource.result
+at_is c = c.of-res.ensures ∙ c.vacant_key.ensures.value ∙ sym c.add_resource.ensures.next
 
 pub invariant_of-self : goal.invariant_of-self
-invariant_of-self c =
+invariant_of-self c = resource_room_kept c.self.inside c.self.invariant c.self.inside.queues.resources c.insert.new.self refl c.in_err-insert.ensures.refused
+
+pub returns-in_err-insert-clause-succeeds : goal.returns-in_err-insert-clause-succeeds
+returns-in_err-insert-clause-succeeds c has =
+    let never = c.in_err-insert.ensures.succeeds (resource_find c.self.inside c.args.hash (rw (← c.self.view_is) at has)) in
+    cc
+
+pub returns-in_err-insert-clause-err : goal.returns-in_err-insert-clause-err
+returns-in_err-insert-clause-err c =
+    on_err c.from_residual.result
+    (rw (← c.self.view_is)
+    (resource_room_made c.self.inside c.self.inside.queues.resources (spares_in c.insert.new.self) refl (omega arith) c.in_err-insert.ensures.kept))
+
+pub invariant_of-self-2 : goal.invariant_of-self-2
+invariant_of-self-2 c =
     let s = c.self.inside in
     let kept = c.self.invariant in
     let q' = c.add_resource.new.self in
@@ -72,7 +91,7 @@ invariant_of-self c =
           (λ x. ap (λ l. option_map lkid_of (slot_of l x)) added.locks) kept.locks;
       resources = hashed_added (hash_key s.keys) s.resource_index c.insert.new.self (hashed_at s.queues) (hashed_at q') at found
           (λ r differs. hashed_by_face (slot_of q'.resources r) (slot_of s.queues.resources r) (added.faces r differs)) kept.resources
-          (subst (λ (k : HashedKey). Enters k at s.resource_index c.insert.new.self) hash_is (rw c.of-res.ensures at c.insert.ensures.enters))
+          (subst (λ (k : HashedKey). Enters k at s.resource_index c.insert.new.self) hash_is (rw (at_is c) at c.in_ok-insert.ensures.enters))
           (ap (option_map hashed_in) added.fresh)
           (hashed_is (slot_of q'.resources at) (new_face c.args.serial c.args.site.now c.args.hash) added.face ∙ ap (λ (k : HashedKey). Some k) hash_is)
           fresh refl;
@@ -103,7 +122,7 @@ returns-clause-added c =
       added.handles (Queued at Conversion) ∙ none_handles s.queues at Conversion added.fresh,
       added.handles (Queued at Waiting) ∙ none_handles s.queues at Waiting added.fresh,
     ) refl in
-    rw (← c.self.view_is, c.of-res.ensures)
+    rw (← c.self.view_is, at_is c)
     (resource_made old l' at
     (new_stored_resource at c.args.serial c.args.site.now) (λ k. ap (λ l. row_in (slot_of l k)) added.locks) added.handles
     (λ r differs. face_by_face (slot_of q'.resources r) (slot_of s.queues.resources r) (added.faces r differs))
@@ -118,7 +137,7 @@ returns-clause-added c =
 pub returns-clause-fresh : goal.returns-clause-fresh
 returns-clause-fresh c has =
     let s = c.self.inside in
-    let is = rw (c.of-res.ensures, ← c.self.view_is) at has in
+    let is = rw (at_is c, ← c.self.view_is) at has in
     let there = c.self.invariant.linked.present c.add_resource.result (HasResource-order (tables s.queues s.order (beside_shown s)) c.add_resource.result is) in
     let vacant : slot_of s.queues.resources c.add_resource.result ≡ None = c.add_resource.ensures.fresh in
     let nothing : IsSome {T = Resource} None = rw vacant at there in
@@ -132,7 +151,7 @@ returns-clause-taken c =
     rw (← c.self.view_is)
     (room_shown (λ a b. IsTaken a.resources b.resources) (tables s.queues s.order (beside_shown s)) (tables q' s'.order (beside_shown s'))
     (is_taken s.queues.resources s.queues.resources q'.resources (spares_in s.resource_index) (spares_in c.insert.new.self) refl (omega arith)
-    c.add_resource.ensures.taken c.insert.ensures.taken))
+    c.add_resource.ensures.taken c.in_ok-insert.ensures.taken))
 
 pub returns-clause-sound : goal.returns-clause-sound
-returns-clause-sound c = record { before = rw (← c.self.view_is) (is_sound c.self.inside c.self.invariant); after = is_sound _ (invariant_of-self c) }
+returns-clause-sound c = record { before = rw (← c.self.view_is) (is_sound c.self.inside c.self.invariant); after = is_sound _ (invariant_of-self-2 c) }

@@ -1,0 +1,29 @@
+-- A resource enters the index, whose room may have grown before.
+use Rattle.std.proofs.Common.{◌≡◌, ℕ, false, List, is_none, Option, None, Some, Result, Ok, Err, OnErr, true≢false, refl, ap, ◌∙◌, sym, subst}
+use Rattle.indexmap.specs.IndexMap.{Updates, hasher_of, spare}
+use Rattle.indexmap.specs.Layout.{hash_map}
+use Rattle.vlm_store.specs.declared.hashed.HashedKey.{HashedKey}
+use Rattle.vlm_store.specs.declared.key_index.KeyIndex.{KeyIndex}
+use Rattle.vlm_store.specs.HashedKeys.{is_same_hashed}
+use Rattle.vlm_store.specs.KeyIndexes.{Enters, EntersBy, main_of}
+use Rattle.vlm_store.specs.OtherKeys.{KeyMap}
+
+pub on_err : {T E P : Type 0} (r : Result T E) → P → OnErr r P
+on_err (Ok x) fact = tt
+on_err (Err e) fact = fact
+
+-- an update of a map is one of each map with the same entries
+updates_same : (old mid new : KeyMap) (k : HashedKey) (at : ℕ) → mid.entries ≡ old.entries
+    → Updates is_same_hashed mid new k (Some at) → Updates is_same_hashed old new k (Some at)
+updates_same old mid new k at same updates =
+    subst (λ (es : List (HashedKey × ℕ)). Updates is_same_hashed (hash_map es (hasher_of old) (spare old)) new k (Some at)) same updates
+
+-- a resource whose hash another has goes to `others`
+pub enters_others : (old mid new : KeyIndex) (k : HashedKey) (at : ℕ) → ((hash : ℕ) → main_of mid hash ≡ main_of old hash)
+    → mid.others.entries ≡ old.others.entries → false ≡ is_none (main_of mid k.hash)
+    → Updates is_same_hashed mid.others new.others k (Some at) → ((hash : ℕ) → main_of new hash ≡ main_of mid hash) → Enters k at old new
+enters_others old mid new k at main entries taken updates same = by_main (main_of old k.hash) refl
+  where
+    by_main : (there : Option ℕ) → main_of old k.hash ≡ there → EntersBy there k at old new
+    by_main None none = absurd (true≢false (sym (ap is_none (main k.hash ∙ none)) ∙ sym taken))
+    by_main (Some before) some = (updates_same old.others mid.others new.others k at entries updates, λ hash. same hash ∙ main hash)
