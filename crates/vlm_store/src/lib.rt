@@ -9,9 +9,10 @@
 //!
 //! Two sets of marks find the first living process of a node, and the first with a pending AST, without a walk.
 //!
-//! A new record needs room in its slab, and then its handle goes into the index. Only these two steps can be refused,
-//! and then nothing else is changed; they also grow slab and index. Three other things take memory: the status blocks
-//! of a new process, its marks, and the room for ASTs that a process is owed. Nothing shrinks.
+//! A slab and its index grow before a record is added, so a refusal changes nothing but the room. The indexes of
+//! resources and of processes grow as they take the new handle, which spares a second look at their room. Three other
+//! things take memory: the status blocks of a new process, its marks, and the room for ASTs that a process is owed.
+//! Nothing shrinks.
 #![tactic(auto)]
 
 mod additions;

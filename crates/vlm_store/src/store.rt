@@ -190,6 +190,7 @@ impl Store {
         ensures taken { IsTaken self.old.room.locks self.new.room.locks }
         ensures sound { AreSound self.old self.new }
     {
+        // a copy, since two of the calls take it
         let above = parent;
         let slot = self.queues.add(row, owner, parent, to);
         join_wait_list(&mut self.queues.locks, &mut self.wait_list, slot, &to);
