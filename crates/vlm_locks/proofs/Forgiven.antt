@@ -4,6 +4,7 @@ use Rattle.std.proofs.Common.{eq-eqb, ne_eqb}
 use Rattle.std.proofs.lemmas.Bool.{cases_eq}
 use Rattle.vlm_words.specs.Dues.{routines_of}
 use Rattle.vlm_store.specs.Records.{IsNoLess, IsOwed, IsProcess, IsUnchanged, Records, Room, Rooms, StoredProcess, due_of, on_stored, owed_less, owed_more}
+use Rattle.vlm_store.proofs.RoomShown.{no_less_then}
 use Rattle.vlm_locks.specs.declared.new_locks.NewLock.{NewLock}
 use Rattle.vlm_locks.specs.Entering.{IsOwing, IsReady}
 
@@ -41,14 +42,6 @@ pub owed_nothing : (at count : ℕ) → count ≡ 0 → (s : Records) → s ≡ 
 owed_nothing at count none s =
     ap (λ (ps : List StoredProcess). record s { processes = ps }) (sym (owed_none at s.processes))
     ∙ ap (λ n. record s { processes = on_stored at (owed_more n) s.processes }) (sym none)
-
--- room that is no less twice is no less
-no_less_then : (a b c : Room) → IsNoLess a b → IsNoLess b c → IsNoLess a c
-no_less_then a b c first second = record {
-  slots = omega (arith, first.slots, second.slots);
-  next_handle = second.next_handle ∙ first.next_handle;
-  finds = λ number. omega (arith, first.finds number, second.finds number);
-}
 
 module _ (e : NewLock) (s : Records) where
   abbrev count : ℕ

@@ -1,5 +1,5 @@
 -- A resource enters the index, whose room may have grown before.
-use Rattle.std.proofs.Common.{◌≡◌, ℕ, false, List, is_none, Option, None, Some, Result, Ok, Err, OnErr, true≢false, refl, ap, ◌∙◌, sym, subst}
+use Rattle.std.proofs.Common.{◌≡◌, ℕ, false, List, is_none, Option, None, Some, true≢false, refl, ap, ◌∙◌, sym, subst}
 use Rattle.indexmap.specs.IndexMap.{Updates, hasher_of, spare}
 use Rattle.indexmap.specs.Layout.{hash_map}
 use Rattle.vlm_store.specs.declared.hashed.HashedKey.{HashedKey}
@@ -7,10 +7,6 @@ use Rattle.vlm_store.specs.declared.key_index.KeyIndex.{KeyIndex}
 use Rattle.vlm_store.specs.HashedKeys.{is_same_hashed}
 use Rattle.vlm_store.specs.KeyIndexes.{Enters, EntersBy, main_of}
 use Rattle.vlm_store.specs.OtherKeys.{KeyMap}
-
-pub on_err : {T E P : Type 0} (r : Result T E) → P → OnErr r P
-on_err (Ok x) fact = tt
-on_err (Err e) fact = fact
 
 -- an update of a map is one of each map with the same entries
 updates_same : (old mid new : KeyMap) (k : HashedKey) (at : ℕ) → mid.entries ≡ old.entries

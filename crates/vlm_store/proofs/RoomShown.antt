@@ -61,6 +61,22 @@ spare_used old new used number = omega (arith, room_by old number, room_by new n
 pub no_less : (room : Room) → IsNoLess room room
 no_less room = record { slots = omega arith; next_handle = refl; finds = λ number. omega arith }
 
+-- room that is no less twice is no less
+pub no_less_then : (a b c : Room) → IsNoLess a b → IsNoLess b c → IsNoLess a c
+no_less_then a b c first second = record {
+  slots = omega (arith, first.slots, second.slots);
+  next_handle = second.next_handle ∙ first.next_handle;
+  finds = λ number. omega (arith, first.finds number, second.finds number);
+}
+
+pub unchanged_then : (a b c : Records) → IsUnchanged a b → IsUnchanged b c → IsUnchanged a c
+unchanged_then a b c first second = record {
+  same = second.same ∙ ap (λ (x : Records). record x { room = c.room }) first.same;
+  locks = no_less_then a.room.locks b.room.locks c.room.locks first.locks second.locks;
+  resources = no_less_then a.room.resources b.room.resources c.room.resources first.resources second.resources;
+  processes = no_less_then a.room.processes b.room.processes c.room.processes first.processes second.processes;
+}
+
 -- each kind has its room
 pub rooms_are : (a b c a' b' c' : Room) → a' ≡ a → b' ≡ b → c' ≡ c → rooms a' b' c' ≡ rooms a b c
 rooms_are a b c a' b' c' first second third =
@@ -199,8 +215,9 @@ pub resource_slot : (s : Inside) → HasSlot (records_shown s).room.resources
 resource_slot s has = has_slot s.queues.resources (spares_in s.resource_index)
     (shown_room (λ r. HasSlot r.resources) (tables s.queues s.order (beside_shown s)) has)
 
-pub resource_find : (s : Inside) (hash : ℕ) → HasRoom hash (records_shown s).room.resources → 0 < spare_for (spares_in s.resource_index) hash
-resource_find s hash has = shown_room (λ r. 0 < spare_for r.resources.finds hash) (tables s.queues s.order (beside_shown s)) has.find
+-- and in the index
+pub resource_find : (s : Inside) (hash : ℕ) → 0 < spare_for (records_shown s).room.resources.finds hash → 0 < spare_for (spares_in s.resource_index) hash
+resource_find s hash find = shown_room (λ r. 0 < spare_for r.resources.finds hash) (tables s.queues s.order (beside_shown s)) find
 
 pub process_room : (s : Inside) (pid : ℕ) → HasRoom pid (records_shown s).room.processes → HasRoomFor s.processes 1
     × (s.processes.vacant_key ≤ LAST_HANDLE) × (1 ≤ spare s.process_index)

@@ -15,7 +15,6 @@
 //! Nothing shrinks.
 #![tactic(auto)]
 
-mod additions;
 mod armed;
 mod hashed;
 mod key_index;

@@ -201,6 +201,31 @@ impl Store {
         at
     }
 
+    /// Adds a lock as `add_lock_reserved` does, and makes the room. If memory is refused or no handle is left, nothing
+    /// is changed, except that there may be more room.
+    pub fn add_lock(
+        &mut self,
+        row: &StoredState,
+        owner: ProcAt,
+        parent: Option<LockAt>,
+        to: Place,
+    ) -> Result<LockAt, AllocError>
+        requires new { IsNewLock row.now.lkid self.old }
+        requires owner { IsProcess owner row.now.pid self.old }
+        requires parent { IsParentOf parent row.now self.old }
+        requires there { HasPlace to self.old }
+        ensures added { IfOk result (λ at. self.new ≡ with_lock_room self.new.room.locks
+            (with_new_lock at row.now owner parent to self.old)) }
+        ensures fresh { IfOk result (λ at. ¬ IsLock at self.old) }
+        ensures taken { OnOk result (IsTaken self.old.room.locks self.new.room.locks) }
+        ensures sound { OnOk result (AreSound self.old self.new) }
+        ensures succeeds { HasRoomForLock row.now.lkid self.old → IsOk result }
+        ensures err { OnErr result (IsUnchanged self.old self.new) }
+    {
+        self.reserve_lock(row.lkid())?;
+        Ok(self.add_lock_reserved(row, owner, parent, to))
+    }
+
     /// Moves a lock to the end of a queue, and writes its row. The old and the new queue may be the same.
     pub fn move_lock(&mut self, lock: LockAt, row: &StoredState, to: Place)
         requires lock { IsRowOf lock row.now self.old }
@@ -290,7 +315,7 @@ impl Store {
     }
 
     // Makes room for one more record of a resource, if there is no room.
-    pub(crate) fn reserve_resource(&mut self) -> Result<(), AllocError>
+    fn reserve_resource(&mut self) -> Result<(), AllocError>
         ensures unchanged { IsUnchanged self.old self.new }
         ensures only { self.new ≡ with_resource_room self.new.room.resources self.old }
         ensures room { OnOk result (HasSlot self.new.room.resources) }
@@ -300,14 +325,9 @@ impl Store {
         reserve_slot(&mut self.queues.resources)
     }
 
-    // Adds a resource whose record has room. The index has its handle first, since only the index can need memory.
-    pub(crate) fn add_resource_reserved(
-        &mut self,
-        serial: u32,
-        site: &Site,
-        hash: u32,
-    ) -> Result<ResAt, AllocError>
-        requires room { HasSlot self.old.room.resources }
+    /// Adds a resource without locks, last in order, its value block valid zeros. `hash_of` gives the hash. If memory
+    /// is refused or no handle is left, nothing is changed, except that there may be more room.
+    pub fn add_resource(&mut self, serial: u32, site: &Site, hash: u32) -> Result<ResAt, AllocError>
         requires new { IsNewKey site.now.key self.old }
         requires hash { hash ≡ hash_key self.old.keys site.now.key }
         ensures added { IfOk result (λ res. self.new
@@ -317,9 +337,11 @@ impl Store {
         ensures fresh { IfOk result (λ res. ¬ HasResource res self.old) }
         ensures taken { OnOk result (IsTaken self.old.room.resources self.new.room.resources) }
         ensures sound { OnOk result (AreSound self.old self.new) }
-        ensures succeeds { HasRoomForResource hash self.old → IsOk result }
         ensures err { OnErr result (IsUnchanged self.old self.new) }
+        ensures succeeds { HasRoomForResource hash self.old → IsOk result }
     {
+        self.reserve_resource()?;
+        // The index has the handle first, since nothing after it needs memory.
         let res = ResAt::of(self.queues.resources.vacant_key());
         self.resource_index.insert(&site.key, hash, res)?;
         self.queues

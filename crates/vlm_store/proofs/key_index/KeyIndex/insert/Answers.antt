@@ -2,7 +2,8 @@ use Rattle.std.proofs.Common.{◌∙◌, ap, arith, sym}
 use Rattle.std.proofs.lemmas.Bool.{OnFalse_at}
 use Rattle.indexmap.specs.IndexMap.{spare}
 use Rattle.vlm_store.specs.OtherKeys.{KeyMap}
-use Rattle.vlm_store.proofs.EnteringKeys.{enters_others, on_err}
+use Rattle.vlm_store.proofs.EnteringKeys.{enters_others}
+use Rattle.vlm_store.proofs.KeptRecords.{on_err}
 use Rattle.vlm_store.proofs.Spares.{both_kept, both_used, spare_is}
 use Rattle.vlm_store.proofs.key_index.KeyIndex.insert.Goals as goal
 
@@ -13,7 +14,7 @@ returns-in_err-reserve-clause-succeeds c room =
 
 pub returns-in_err-reserve-clause-kept : goal.returns-in_err-reserve-clause-kept
 returns-in_err-reserve-clause-kept c =
-    on_err c.from_residual.result
+    on_err c.from_residual.result _
     (both_kept c.args.self.now (record c.look_ahead.new.self { others = c.reserve.new.self })
     (omega (arith, ap spare c.look_ahead.ensures.others, c.reserve.ensures.room)) c.look_ahead.ensures.room)
 
@@ -24,7 +25,7 @@ returns-in_err-insert-clause-succeeds c room =
 
 pub returns-in_err-insert-clause-kept : goal.returns-in_err-insert-clause-kept
 returns-in_err-insert-clause-kept c =
-    on_err c.from_residual-in_err-insert.result
+    on_err c.from_residual-in_err-insert.result _
     (both_kept c.args.self.now (record c.look_ahead.new.self { main = c.insert.new.self; others = c.reserve.new.self })
     (omega (arith, ap spare c.look_ahead.ensures.others, c.reserve.ensures.room))
     (λ number. omega (arith, c.look_ahead.ensures.room number, c.in_err-insert.ensures.kept number)))
