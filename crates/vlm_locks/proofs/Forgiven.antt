@@ -3,7 +3,7 @@ use Rattle.std.proofs.Common.{◌≡◌, ◌+◌, ◌-◌, ℕ, Bool, cond, List
 use Rattle.std.proofs.Common.{eq-eqb, ne_eqb}
 use Rattle.std.proofs.lemmas.Bool.{cases_eq}
 use Rattle.vlm_words.specs.Dues.{routines_of}
-use Rattle.vlm_store.specs.Records.{IsNoLess, IsOwed, IsProcess, IsUnchanged, Records, Room, Rooms, StoredProcess, due_of, on_stored, owed_less, owed_more}
+use Rattle.vlm_store.specs.Records.{IsNoLess, IsOwed, IsProcess, IsUnchanged, Records, Rooms, StoredProcess, due_of, on_stored, owed_less, owed_more}
 use Rattle.vlm_store.proofs.RoomShown.{no_less_then}
 use Rattle.vlm_locks.specs.declared.new_locks.NewLock.{NewLock}
 use Rattle.vlm_locks.specs.Entering.{IsOwing, IsReady}
