@@ -99,8 +99,8 @@ fn enter_at(store: &mut Store, new_lock: &NewLock, res: ResAt)
     store.add_lock_reserved(&state, new_lock.owner, new_lock.parent, place);
 }
 
-// The resource of a new lock, which is added if it does not exist. If memory is refused, nothing is changed, except that
-// there may be more room.
+// The resource of a new lock, which is added if it does not exist. If memory is refused, nothing is changed, except
+// that there may be more room.
 fn resource_or_new(store: &mut Store, new_lock: &NewLock) -> Result<ResAt, AllocError>
     requires may_enter { MayEnter new_lock.now store.old }
     requires found { FindsResource store.old new_lock.now.site.key new_lock.now.res }

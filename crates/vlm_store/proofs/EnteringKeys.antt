@@ -1,5 +1,8 @@
--- A resource enters the index, whose room may have grown before.
-use Rattle.std.proofs.Common.{◌≡◌, ℕ, false, List, is_none, Option, None, Some, true≢false, refl, ap, ◌∙◌, sym, subst}
+-- A lock or a resource enters its index. The room of the index may have grown before.
+use Rattle.std.proofs.Common.{◌≡◌, ℕ, Bool, true, false, List, is_none, Option, None, Some, Result, Ok, Err, IfOk, IsOk, true≢false, refl, ap}
+use Rattle.std.proofs.Common.{◌∙◌, sym, subst}
+use Rattle.std.specs.Bool.{OnTrue}
+use Rattle.std.proofs.lemmas.Bool.{OnTrue_at}
 use Rattle.indexmap.specs.IndexMap.{Updates, hasher_of, spare}
 use Rattle.indexmap.specs.Layout.{hash_map}
 use Rattle.vlm_store.specs.declared.hashed.HashedKey.{HashedKey}
@@ -23,3 +26,8 @@ enters_others old mid new k at main entries taken updates same = by_main (main_o
     by_main : (there : Option ℕ) → main_of old k.hash ≡ there → EntersBy there k at old new
     by_main None none = absurd (true≢false (sym (ap is_none (main k.hash ∙ none)) ∙ sym taken))
     by_main (Some before) some = (updates_same old.others mid.others new.others k at entries updates, λ hash. same hash ∙ main hash)
+
+-- a new number is written
+pub written : {E A : Type 0} {new : Bool} (r : Result Bool E) → IsOk r → IfOk r (λ is. is ≡ new) → new ≡ true → IfOk r (λ is. OnTrue is A) → A
+written (Ok is) ok same fresh writes = OnTrue_at (same ∙ fresh) writes
+written (Err e) ok same fresh writes = absurd (true≢false (sym ok))

@@ -25,6 +25,7 @@ pub mod QueuedSeen
 pub mod QueuedTotals
 pub mod Records
 pub mod ProcessRewritten
+pub mod ResourceAdded
 pub mod RoomShown
 pub mod Siblings
 pub mod Spares

@@ -57,6 +57,10 @@ spares_kept old new more number = omega (arith, room_by old number, room_by new 
 pub spare_used : (old new : HandleMap) → spare old ≤ spare new + 1 → UsesOneSpare (spares_by old) (spares_by new)
 spare_used old new used number = omega (arith, room_by old number, room_by new number, used)
 
+-- where there was no room there is no less
+pub none_less : (old new : ℕ) → ¬ (0 < old) → old ≤ new
+none_less old new none = omega (arith, none)
+
 -- no less than itself
 pub no_less : (room : Room) → IsNoLess room room
 no_less room = record { slots = omega arith; next_handle = refl; finds = λ number. omega arith }
@@ -168,6 +172,11 @@ module _ (s : Inside) where
       → spare s.process_index ≤ spare index
       → IsUnchanged (records_shown s) (with_processes (record (rooms_shown s) { processes = room_of processes (spares_by index) }) processes)
   process_index_room_made processes index is more spares = process_room_made processes (spares_by index) is more (spares_kept s.process_index index spares)
+
+  pub process_slot_made : (processes : Slab Process) → processes ≡ record s.processes { capacity = processes.capacity }
+      → s.processes.capacity ≤ processes.capacity
+      → IsUnchanged (records_shown s) (with_processes (record (rooms_shown s) { processes = room_of processes (spares_by s.process_index) }) processes)
+  process_slot_made processes is more = process_index_room_made processes s.process_index is more (omega arith)
 
 -- the room stays where the queues keep it
 pub queues_room : (s : Inside) (q' : Queues) → room_in q'.locks ≡ room_in s.queues.locks

@@ -1,7 +1,5 @@
-use Rattle.std.proofs.Common.{◌≡◌, ◌∙◌, ℕ, Bool, true, None, Some, IsSome, is_none, Result, Ok, Err, IfOk, IsOk, true≢false, ap, sym, refl, arith, ◌+◌}
+use Rattle.std.proofs.Common.{◌≡◌, ◌∙◌, ℕ, None, Some, IsSome, is_none, IsOk, ap, refl, arith, ◌+◌}
 use Rattle.std.specs.Option.{option_map}
-use Rattle.std.specs.Bool.{OnTrue}
-use Rattle.std.proofs.lemmas.Bool.{OnTrue_at}
 use Rattle.slab.specs.Slab.{get as slot_of}
 use Rattle.vlm_collections.specs.Parts.{spares_of}
 use Rattle.vlm_collections.proofs.Keeping.{relinked_same}
@@ -12,6 +10,7 @@ use Rattle.vlm_records.proofs.PlacesOnLists.{last_noted}
 use Rattle.vlm_store.specs.Kept.{beside_shown}
 use Rattle.vlm_store.specs.Records.{IsTaken}
 use Rattle.vlm_store.specs.Store.{lkid_at, tables}
+use Rattle.vlm_store.proofs.EnteringKeys.{written}
 use Rattle.vlm_store.proofs.Indexing.{Indexes-added}
 use Rattle.vlm_store.proofs.Joining.{IsNewIn, after_joining, joined_kept, joined_lkids, joined_records, linked_parent_there, new_owner, new_parent}
 use Rattle.vlm_store.proofs.Joining.{new_below, new_lkid, new_owned, new_there, newly_in, other_lkids, owner_was_there}
@@ -101,11 +100,6 @@ new_in : (c : goal.After-insert) → IsNewIn c.self.inside c.add-slot.new.self c
 new_in c =
     newly_in c.self.invariant c.add-slot.ensures c.join_wait_list.ensures.rest
     (rw (← c.self.view_is) at c.requires.owner) (rw (← c.self.view_is) at c.requires.parent)
-
--- a new number is written
-written : {E A : Type 0} {new : Bool} (r : Result Bool E) → IsOk r → IfOk r (λ is. is ≡ new) → new ≡ true → IfOk r (λ is. OnTrue is A) → A
-written (Ok is) ok same fresh writes = OnTrue_at (same ∙ fresh) writes
-written (Err e) ok same fresh writes = absurd (true≢false (sym ok))
 
 pub invariant_of-self : goal.invariant_of-self
 invariant_of-self c =

@@ -1,4 +1,4 @@
-use Rattle.std.proofs.Common.{◌≡◌, ◌∙◌, ◌<◌, ◌≤◌, ℕ, None, IsSome, ap, sym, refl, arith}
+use Rattle.std.proofs.Common.{◌≡◌, ◌∙◌, None, IsSome, ap, sym, refl}
 use Rattle.slab.specs.Slab.{get}
 use Rattle.indexmap.specs.IndexMap.{spare}
 use Rattle.vlm_records.specs.declared.processes.Process.{Process}
@@ -10,19 +10,12 @@ use Rattle.vlm_store.proofs.KeptRecords.{on_err}
 use Rattle.vlm_store.proofs.LivingProcesses.{is_sound, process_named, process_there}
 use Rattle.vlm_store.proofs.ProcessAdded.{IsAdded, added_indexed, added_kept, added_living, added_pending, added_records, after_adding}
 use Rattle.vlm_store.proofs.ProcessesChange.{more_living, more_pending, reserved_kept}
-use Rattle.vlm_store.proofs.RoomShown.{is_taken, process_index_room_made, process_room, room_shown, spare_used}
+use Rattle.vlm_store.proofs.RoomShown.{is_taken, none_less, process_index_room_made, process_room, process_slot_made, room_shown, spare_used}
 use Rattle.vlm_store.proofs.store.Store.add_process.Goals as goal
-
--- where there was no room there is no less
-none_less : (old new : ℕ) → ¬ (0 < old) → old ≤ new
-none_less old new none = omega (arith, none)
-
--- ---- the process is added
 
 pub put_in-requires-clause-linked : goal.put_in-requires-clause-linked
 put_in-requires-clause-linked c =
-    (reserved_kept c.self.invariant c.reserve_slot.new.records c.self.inside.process_index
-    c.reserve_slot.ensures.records refl).processes_linked
+    (reserved_kept c.self.invariant c.reserve_slot.new.records c.self.inside.process_index c.reserve_slot.ensures.records refl).processes_linked
 
 -- room was made, and the process was put in
 is_added : (c : goal.After-mark) → IsAdded c.self.inside c.reserve_slot.new.records c.put_in.new.processes c.put_in.new.order
@@ -57,9 +50,8 @@ returns-clause-added c =
 
 pub returns-clause-fresh : goal.returns-clause-fresh
 returns-clause-fresh c has =
-    let slot = c.put_in.result in
-    let there = process_there c.self.inside c.self.invariant slot (rw (at_is c, ← c.self.view_is) at has) in
-    let vacant : get c.self.inside.processes slot ≡ None = sym ((is_added c).same slot) ∙ c.put_in.ensures.fresh in
+    let there = process_there c.self.inside c.self.invariant c.put_in.result (rw (at_is c, ← c.self.view_is) at has) in
+    let vacant : get c.self.inside.processes c.put_in.result ≡ None = sym ((is_added c).same c.put_in.result) ∙ c.put_in.ensures.fresh in
     let nothing : IsSome {T = Process} None = rw vacant at there in
     absurd (cc)
 
@@ -86,8 +78,7 @@ pub returns-in_err-reserve_slot-clause-err : goal.returns-in_err-reserve_slot-cl
 returns-in_err-reserve_slot-clause-err c =
     rw (← c.self.view_is)
     (on_err c.from_residual.result _
-    (process_index_room_made c.self.inside c.reserve_slot.new.records c.self.inside.process_index c.reserve_slot.ensures.records
-    c.reserve_slot.ensures.capacity (omega arith)))
+    (process_slot_made c.self.inside c.reserve_slot.new.records c.reserve_slot.ensures.records c.reserve_slot.ensures.capacity))
 
 -- where there is room none is refused
 pub returns-in_err-reserve_slot-clause-succeeds : goal.returns-in_err-reserve_slot-clause-succeeds
@@ -105,8 +96,7 @@ pub returns-in_err-make_room-clause-err : goal.returns-in_err-make_room-clause-e
 returns-in_err-make_room-clause-err c =
     rw (← c.self.view_is)
     (on_err c.from_residual-in_err-make_room.result _
-    (process_index_room_made c.self.inside c.reserve_slot.new.records c.self.inside.process_index c.reserve_slot.ensures.records
-    c.reserve_slot.ensures.capacity (omega arith)))
+    (process_slot_made c.self.inside c.reserve_slot.new.records c.reserve_slot.ensures.records c.reserve_slot.ensures.capacity))
 
 -- beside a living process of its node there is room for the mark
 pub returns-in_err-make_room-clause-succeeds : goal.returns-in_err-make_room-clause-succeeds
@@ -128,8 +118,7 @@ pub returns-in_err-make_room-2-clause-err : goal.returns-in_err-make_room-2-clau
 returns-in_err-make_room-2-clause-err c =
     rw (← c.self.view_is)
     (on_err c.from_residual-in_err-make_room-2.result _
-    (process_index_room_made c.self.inside c.reserve_slot.new.records c.self.inside.process_index c.reserve_slot.ensures.records
-    c.reserve_slot.ensures.capacity (omega arith)))
+    (process_slot_made c.self.inside c.reserve_slot.new.records c.reserve_slot.ensures.records c.reserve_slot.ensures.capacity))
 
 pub returns-in_err-make_room-2-clause-succeeds : goal.returns-in_err-make_room-2-clause-succeeds
 returns-in_err-make_room-2-clause-succeeds c has =
@@ -151,12 +140,10 @@ pub returns-in_err-insert-clause-err : goal.returns-in_err-insert-clause-err
 returns-in_err-insert-clause-err c =
     rw (← c.self.view_is)
     (on_err c.from_residual-in_err-insert.result _
-    (process_index_room_made c.self.inside c.reserve_slot.new.records c.insert.new.self c.reserve_slot.ensures.records
-    c.reserve_slot.ensures.capacity
+    (process_index_room_made c.self.inside c.reserve_slot.new.records c.insert.new.self c.reserve_slot.ensures.records c.reserve_slot.ensures.capacity
     (none_less (spare c.self.inside.process_index) _ (λ room. let never = c.in_err-insert.ensures.succeeds room in cc))))
 
 pub returns-in_err-insert-clause-succeeds : goal.returns-in_err-insert-clause-succeeds
 returns-in_err-insert-clause-succeeds c has =
-    let room = process_room c.self.inside c.args.pid (rw (← c.self.view_is) at has.record_room) in
-    let never = c.in_err-insert.ensures.succeeds room.2 in
+    let never = c.in_err-insert.ensures.succeeds (process_room c.self.inside c.args.pid (rw (← c.self.view_is) at has.record_room)).2 in
     cc

@@ -1,31 +1,19 @@
-use Rattle.std.proofs.Common.{◌≡◌, ◌<◌, arith, ◌∙◌, ◌++◌, ◌∷◌, [], ℕ, None, Some, IsSome, ap, refl, subst, sym}
-use Rattle.std.specs.Option.{option_map}
-use Rattle.slab.specs.Slab.{get as slot_of, get}
-use Rattle.vlm_collections.specs.Parts.{handle_in, spare_for, spares_of}
-use Rattle.vlm_collections.specs.declared.hashers.HashKeys.{HashKeys}
-use Rattle.vlm_collections.proofs.Keeping.{vacant_unlisted}
-use Rattle.vlm_words.specs.declared.resources.Queue.TheVariants.{Granted, Conversion, Waiting}
-use Rattle.vlm_records.specs.declared.handles.Place.TheVariants.{Queued}
+use Rattle.std.proofs.Common.{◌≡◌, ◌<◌, arith, ◌∙◌, ◌++◌, ◌∷◌, [], None, IsSome, ap, refl, subst, sym}
+use Rattle.slab.specs.Slab.{get as slot_of}
+use Rattle.vlm_collections.specs.Parts.{spare_for}
 use Rattle.vlm_records.specs.declared.resources.Resource.{Resource}
-use Rattle.vlm_records.specs.Shown.{lkid_of, new_face, order_links, row_in, room_in, but_queued, loose_in}
-use Rattle.vlm_records.proofs.Making.{face_by_face, face_is, none_handles, there_by_face, whole_grown}
-use Rattle.vlm_records.proofs.PlacesOnLists.{same_eq}
-use Rattle.vlm_store.specs.declared.hashed.HashedKey.{HashedKey}
-use Rattle.vlm_store.specs.HashedKeys.{hashed, hashed_at, hashed_in}
 use Rattle.vlm_store.specs.Index.{hash_key}
-use Rattle.vlm_store.specs.Kept.{beside_shown, found_in, records_shown}
-use Rattle.vlm_store.specs.KeyIndexes.{Enters, spares_in}
+use Rattle.vlm_store.specs.Kept.{beside_shown, records_shown}
+use Rattle.vlm_store.specs.KeyIndexes.{spares_in}
 use Rattle.vlm_store.specs.Records.{HasResource, IsNewKey, IsTaken, IsUnchanged, Records, new_stored_resource, with_resource_room}
-use Rattle.vlm_store.specs.Store.{lkid_at, resource_of, tables, records_of}
-use Rattle.vlm_store.proofs.HashedKeys.{by_keys, fresh_label, hashed_added, hashed_by_face, hashed_is}
-use Rattle.vlm_store.proofs.Indexing.{Indexes-same}
-use Rattle.vlm_store.proofs.KeptRecords.{no_resource, on_err}
-use Rattle.vlm_store.proofs.Kinship.{records_keys, queued_below, queued_named, queued_owned, queued_processes}
-use Rattle.vlm_store.proofs.Layouts.{HasResource-order, resource_made}
+use Rattle.vlm_store.specs.Store.{tables}
+use Rattle.vlm_store.proofs.KeptRecords.{on_err}
+use Rattle.vlm_store.proofs.Layouts.{HasResource-order}
 use Rattle.vlm_store.proofs.LivingProcesses.{is_sound}
 use Rattle.vlm_store.proofs.LocksChange.{laid_out_kept}
-use Rattle.vlm_store.proofs.RoomShown.{is_taken, resource_find, resource_room_kept, resource_room_made, resource_slot, room_of_same, room_shown, rooms_are, unchanged_then}
-use Rattle.vlm_store.proofs.WaitListed.{wait_list_same}
+use Rattle.vlm_store.proofs.ResourceAdded.{resource_kept, resource_shown}
+use Rattle.vlm_store.proofs.RoomShown.{is_taken, resource_find, resource_room_kept, resource_room_made, resource_slot}
+use Rattle.vlm_store.proofs.RoomShown.{room_shown, unchanged_then}
 use Rattle.vlm_store.proofs.store.Store.add_resource.Goals as goal
 
 pub of-res-requires : goal.of-res-requires
@@ -90,75 +78,15 @@ returns-in_err-insert-clause-err c =
 
 pub invariant_of-self-2 : goal.invariant_of-self-2
 invariant_of-self-2 c =
-    let s = c.self.inside in
-    let kept = c.self.invariant in
-    let q' = c.add_resource.new.self in
-    let at = c.add_resource.result in
-    let added = c.add_resource.ensures in
-    let key = c.args.site.now.key in
-    let found = hashed (hash_key s.keys) key in
-    let hash_known : c.args.hash ≡ hash_key s.keys key = (rw (← c.self.view_is) at (hash_still c))
-    ∙ ap (λ (h : HashKeys). hash_key h key) (records_keys (tables s.queues s.order (beside_shown s))) in
-    let hash_is : record { key = key; hash = c.args.hash } ≡ found = ap (λ (n : ℕ). record { key = key; hash = n }) hash_known in
-    let fresh = fresh_label (hash_key s.keys) s.resource_index s.queues kept.resources key
-    (no_resource s.queues s.order (beside_shown s) kept.placed kept.linked kept.ordered (found_in s)
-    (by_keys (hash_key s.keys) s.resource_index s.queues kept.resources) key
-    (rw (← c.self.view_is) at (new_still c))) in
-    let locks_same = same_eq but_queued s.queues.locks q'.locks added.locks in
-    record {
-      placed = added.laid_out.placed;
-      tallied = added.laid_out.tallied;
-      armed = added.laid_out.armed;
-      wait_list = wait_list_same s.queues.locks q'.locks s.wait_list (λ k. ap (λ l. slot_of l k) added.locks) kept.wait_list;
-      linked = added.linked;
-      ordered = whole_grown order_links s.queues.resources q'.resources s.order c.add_resource.new.order at kept.ordered added.order
-          (λ r differs. there_by_face (slot_of q'.resources r) (slot_of s.queues.resources r) (added.faces r differs));
-      locks = Indexes-same (handle_in s.lock_index) (handle_in s.lock_index) (lkid_at s.queues) (lkid_at q') (λ k. refl)
-          (λ x. ap (λ l. option_map lkid_of (slot_of l x)) added.locks) kept.locks;
-      resources = hashed_added (hash_key s.keys) s.resource_index c.insert.new.self (hashed_at s.queues) (hashed_at q') at found
-          (λ r differs. hashed_by_face (slot_of q'.resources r) (slot_of s.queues.resources r) (added.faces r differs)) kept.resources
-          (subst (λ (k : HashedKey). Enters k at s.resource_index c.insert.new.self) hash_is (rw (at_is c) at c.in_ok-insert.ensures.enters))
-          (ap (option_map hashed_in) added.fresh)
-          (hashed_is (slot_of q'.resources at) (new_face c.args.serial c.args.site.now c.args.hash) added.face ∙ ap (λ (k : HashedKey). Some k) hash_is)
-          fresh refl;
-      owned = queued_owned s.processes s.queues.locks q'.locks locks_same None kept.owned;
-      below = queued_below s.processes s.queues.locks q'.locks locks_same None kept.below;
-      named = queued_named s.processes s.queues.locks q'.locks locks_same kept.named;
-      processes_linked = kept.processes_linked;
-      processes_ordered = kept.processes_ordered;
-      processes = kept.processes;
-      marked = kept.marked;
-      living = kept.living;
-    }
+    resource_kept c.self.inside c.self.invariant c.add_resource.new.self c.add_resource.new.order c.insert.new.self
+    c.add_resource.result c.args.serial c.args.hash c.args.site.now c.add_resource.ensures (rw (at_is c) at c.in_ok-insert.ensures.enters)
+    (rw (← c.self.view_is) at (new_still c)) (rw (← c.self.view_is) at (hash_still c))
 
 added_to_roomy : (c : goal.After-add_resource) → AddsTo c c.reserve_resource.new.self
 added_to_roomy c =
-    let s = c.self.inside in
-    let kept = c.self.invariant in
-    let q' = c.add_resource.new.self in
-    let at = c.add_resource.result in
-    let added = c.add_resource.ensures in
-    let s' = record s { queues = q'; order = c.add_resource.new.order; resource_index = c.insert.new.self } in
-    let old = tables s.queues s.order (beside_shown s) in
-    let l' = tables q' s'.order (beside_shown s') in
-    let made : resource_of l' at ≡ new_stored_resource at c.args.serial c.args.site.now =
-    rw (
-      face_is (slot_of q'.resources at) (new_face c.args.serial c.args.site.now c.args.hash) added.face,
-      added.handles (Queued at Granted) ∙ none_handles s.queues at Granted added.fresh,
-      added.handles (Queued at Conversion) ∙ none_handles s.queues at Conversion added.fresh,
-      added.handles (Queued at Waiting) ∙ none_handles s.queues at Waiting added.fresh,
-    ) refl in
     rw (← c.self.view_is, at_is c)
-    (resource_made old l' at
-    (new_stored_resource at c.args.serial c.args.site.now) (λ k. ap (λ l. row_in (slot_of l k)) added.locks) added.handles
-    (λ r differs. face_by_face (slot_of q'.resources r) (slot_of s.queues.resources r) (added.faces r differs))
-    (vacant_unlisted order_links s.queues.resources s.order kept.linked at added.fresh) added.order made
-    (queued_processes s.processes s.queues.locks q'.locks
-    (same_eq but_queued s.queues.locks q'.locks added.locks) s.process_order
-    (λ k. ap (λ x. loose_in (get x k)) added.locks) kept.owned kept.below) refl
-    ∙ ap (λ r. record (records_of old) { resources = (records_of old).resources ++ new_stored_resource at c.args.serial c.args.site.now ∷ []; room = r })
-    (room_shown (λ a b. b ≡ record a { resources = b.resources }) old l'
-    (rooms_are _ _ _ _ _ _ (room_of_same s.queues.locks q'.locks (spares_of s.lock_index) (ap room_in added.locks)) refl refl)))
+    (resource_shown c.self.inside c.self.invariant c.add_resource.new.self c.add_resource.new.order c.insert.new.self
+    c.add_resource.result c.args.serial c.args.hash c.args.site.now c.add_resource.ensures)
 
 pub returns-clause-added : goal.returns-clause-added
 returns-clause-added c = subst (AddsTo c) c.reserve_resource.ensures.only (added_to_roomy c)
