@@ -36,7 +36,7 @@ use Rattle.vlm_store.proofs.Kinship.{below_owned, below_prev-queued, lkid-named,
 use Rattle.vlm_store.proofs.Kinship.{own_below_handles, own_kin, own_named, own_next-queued, own_pids, own_faces}
 use Rattle.vlm_store.proofs.Kinship.{own_prev-queued, own_process_handles, owner-queued, owner_fits, parent-queued}
 use Rattle.vlm_store.proofs.Kinship.{kin_handles, kin_loose, kin_rows, loose_but, parent_fits, records_processes}
-use Rattle.vlm_records.proofs.PlacesOnLists.{by_part, there_by_part, lkid_of_row, named-queued, same_then, there_through, through}
+use Rattle.vlm_records.proofs.PlacesOnLists.{by_part, there_by_part, lkid_of_row, named-queued, same_then, there_through}
 use Rattle.vlm_store.proofs.KeptRecords.{faces_same}
 use Rattle.vlm_store.proofs.Layouts.{joining-under_handle, lists_changed_beside}
 use Rattle.vlm_store.proofs.LivingProcesses.{lock_there, process_named}
@@ -87,13 +87,6 @@ module _ {s : Inside} {q' : Queues} {locks2 : Slab Lock} {at : ℕ} {row : LockS
 
   pub new_parent : parent_in (get locks2 at) ≡ parent
   new_parent = by_part but_queued parent_in parent-queued (get locks2 at) (Some (new_lock row owner parent)) lock_is_new
-
-  -- its record names the process and the parent as it did before the wait list got it
-  pub listed_owner : owner_in (get locks2 at) ≡ owner_in (get q'.locks at)
-  listed_owner = through but_queued owner_in owner-queued q'.locks locks2 (wait_list_queued q'.locks locks2 new.listed) at
-
-  pub listed_parent : parent_in (get locks2 at) ≡ parent_in (get q'.locks at)
-  listed_parent = through but_queued parent_in parent-queued q'.locks locks2 (wait_list_queued q'.locks locks2 new.listed) at
 
   pub new_there : ContainsKey locks2 at
   new_there = there_by_part but_queued (get locks2 at) (Some (new_lock row owner parent)) lock_is_new refl

@@ -1,5 +1,5 @@
 -- What the store keeps, and what a caller learns of it.
-use Rattle.std.proofs.Common.{◌≡◌, ◌≤◌, ℕ, [], map, arith, Option, None, Some, IfSome, IsSome, Result, Ok, Err, IsOk, OnErr, OnOk, refl, sym, ap, ◌∙◌, false}
+use Rattle.std.proofs.Common.{◌≡◌, ◌≤◌, ℕ, [], map, arith, Option, None, Some, IfSome, IsSome, Result, Ok, Err, OnErr, refl, sym, ap, ◌∙◌, false}
 use Rattle.std.proofs.lemmas.Option.{none-some, same_Some}
 use Rattle.std.specs.Option.{option_map}
 use Rattle.slab.specs.Slab.{Slab, get, ContainsKey}
@@ -222,11 +222,7 @@ module _ (q : Queues) (locks : Slab Lock) (same : (k : ℕ) → get locks k ≡ 
         (λ k _. ap row_in (same k)));
   }
 
--- what an answer says where it is one of success
-pub on_ok : {T E : Type 0} (r : Result T E) (P : Type 0) → IsOk r → OnOk r P → P
-on_ok (Ok x) P is p = p
-on_ok (Err e) P is p = cc
-
+-- what is so is so of a refusal
 pub on_err : {T E : Type 0} (r : Result T E) (P : Type 0) → P → OnErr r P
 on_err (Ok x) P p = tt
 on_err (Err e) P p = p
